@@ -1,0 +1,5 @@
+pub mod Causes
+pub mod Source
+pub mod Shelf
+pub mod Clock
+pub mod Station

@@ -1,0 +1,66 @@
+//! The standard output.
+ghost use Rattle.std.specs.Prelude.{◌≡◌, false, None, OnOk};
+ghost use Rattle.std.specs.Io.KnownBytes.{Appends};
+ghost use Rattle.dv_outside.specs.Station.{untold};
+
+use crate::{Failed, Station};
+use std::io;
+use std::io::{ErrorKind, Write};
+use std::rt::Files;
+
+/// The standard output. It tells neither content nor what was used.
+#[derive(Drop)]
+pub struct FileStation<'a, R: Files + Print> {
+    rt: &'a R,
+    path: &'a str,
+    put_faults: u64,
+}
+
+impl<'a, R: Files + Print> FileStation<'a, R> {
+    /// The station of this runtime whose register is the file at this path. Nothing is opened.
+    pub fn new(rt: &'a R, path: &'a str) -> Self {
+        FileStation {
+            rt,
+            path,
+            put_faults: 0,
+        }
+    }
+}
+
+// Writes all the octets. A write that takes only some of them goes on with the rest, and one that a signal interrupts is
+// made again.
+fn write_whole<W: Write>(out: &mut W, bytes: &[u8]) -> io::Result<()>
+    ensures { OnOk result (Appends (W.contents out.old) (W.contents out.new) bytes.now) }
+{
+    let mut done = 0;
+    for _ in 0..u64::MAX {
+        if done == bytes.len() {
+            return Ok(());
+        }
+        match out.write(&bytes[done..]) {
+            Ok(0) => return Err(io::Error::from(ErrorKind::WriteZero)),
+            Ok(n) => done += n,
+            Err(error) if error.kind() == ErrorKind::Interrupted => {}
+            Err(error) => return Err(error),
+        }
+    }
+    Err(io::Error::from(ErrorKind::TimedOut))
+}
+
+impl<R: Files + Print> Station for FileStation<'_, R> {
+    ghost tells = { λ _. false };
+
+    ghost content = { λ _. untold };
+
+    ghost counts = { λ s. record { put_faults = s.put_faults; used = None } };
+
+    fn put(&mut self, bytes: &[u8]) -> Result<(), Failed> {
+        match write_whole(&mut io::writer(self.rt), bytes) {
+            Ok(()) => Ok(()),
+            Err(_) => {
+                self.put_faults = self.put_faults.saturating_add(1);
+                Err(Failed)
+            }
+        }
+    }
+}
