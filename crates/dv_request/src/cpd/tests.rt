@@ -1,6 +1,7 @@
 //! Requests whose headers were worked out by hand, for each form of a length, and both sides of the limit.
 
 use super::*;
+use std::alloc::AllocError;
 use std::test::Fail;
 
 /// The ContentInfo's type and what stands around it: `30 LENGTH`, these, `A0 LENGTH 30 LENGTH`.
@@ -31,24 +32,25 @@ const ROWS: [Row; 8] = [
     (65_536, &[0x30, 0x83, 0x01, 0x00, 0x21], &[0xA0, 0x83, 0x01, 0x00, 0x0F], &[0x30, 0x83, 0x01, 0x00, 0x0A], &[0x04, 0x83, 0x01, 0x00, 0x00]),
 ];
 
+// What a row's request is, around these octets.
+fn request_of(alloc: Global, row: &Row, octets: &[u8]) -> Result<Vec<u8>, AllocError> {
+    let (_, whole, content, request, message) = *row;
+    let mut wanted = whole.to_vec(alloc)?;
+    wanted.extend_from_slice(&TYPE)?;
+    wanted.extend_from_slice(content)?;
+    wanted.extend_from_slice(request)?;
+    wanted.extend_from_slice(&INFORMATION)?;
+    wanted.extend_from_slice(message)?;
+    wanted.extend_from_slice(octets)?;
+    Ok(wanted)
+}
+
 #[test]
 fn each_form_of_a_length(rt: HostRuntime) -> Result<(), Fail> {
-    for (count, whole, content, request, message) in ROWS {
-        let octets = vec![in rt.alloc(); 0x61u8; count]?;
-        let mut wanted = Vec::new(rt.alloc());
-        for part in [
-            whole,
-            &TYPE,
-            content,
-            request,
-            &INFORMATION,
-            message,
-            octets.as_slice(),
-        ] {
-            wanted.extend_from_slice(part)?;
-        }
-        let made = cpd_request(rt.alloc(), &octets)?;
-        assert!(rt; made == wanted, "{count} octets");
+    for row in ROWS {
+        let octets = vec![in rt.alloc(); 0x61u8; row.0]?;
+        let wanted = request_of(rt.alloc(), &row, &octets)?;
+        assert!(rt; cpd_request(rt.alloc(), &octets)? == wanted, "{row:?}");
     }
     Ok(())
 }
