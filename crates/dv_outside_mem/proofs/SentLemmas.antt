@@ -1,6 +1,7 @@
 -- A put joins those that were made.
 use Rattle.std.proofs.Common.{◌≡◌, ◌∙◌, ℕ, ◌+◌, ◌<◌, ◌≤◌, List, [], ◌∷◌, ◌++◌, length, take, drop, sum, ap, refl, sym, arith, length-append, length-take}
 use Rattle.std.proofs.lemmas.List.{take_all, take-append-le, take-append-drop}
+use Rattle.std.proofs.lemmas.List.Sums.{sum_by-append}
 use Rattle.std.specs.Prelude.{Result, OnOk}
 use Rattle.std.proofs.lemmas.Result.{on_ok_weaker}
 use Rattle.dv_outside.specs.Station.{Content, Puts}
@@ -8,8 +9,7 @@ use Rattle.dv_outside_mem.specs.Sent.{content_of}
 
 -- The sum of two lists, one after the other.
 sum-append : (xs ys : List ℕ) → sum (xs ++ ys) ≡ sum xs + sum ys
-sum-append [] ys = omega arith
-sum-append (x ∷ xs) ys = omega (arith, sum-append xs ys)
+sum-append xs ys = sum_by-append (λ n. n) xs ys
 
 -- Some of the calls sent no more than all.
 sum-take-le : (n : ℕ) (calls : List ℕ) → sum (take n calls) ≤ sum calls
