@@ -15,6 +15,10 @@ pub record Amount : Type 0 where
   pub calls : ℕ
   pub octets : ℕ
 
+-- Neither number of what was used is past the other amount's.
+abbrev pub Within : Amount → Amount → Type 0
+Within used room = (used.calls ≤ room.calls) × (used.octets ≤ room.octets)
+
 -- The count of faults of puts, and what the calls have used, where that is told.
 pub record Counts : Type 0 where
   pub put_faults : ℕ

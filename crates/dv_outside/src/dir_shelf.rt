@@ -33,7 +33,12 @@ fn refusal_of(error: &io::Error) -> ShelfRefusal
 }
 
 // The octets of a file that should have `len` of them. Of a file past the limit only the first `limit + 1` are read.
-fn read_whole<T: Read + Drop>(alloc: Global, file: T, len: u64, limit: u64) -> Result<Vec<u8>, ShelfRefusal>
+fn read_whole<T: Read + Drop>(
+    alloc: Global,
+    file: T,
+    len: u64,
+    limit: u64,
+) -> Result<Vec<u8>, ShelfRefusal>
     ensures short { IfOk result (λ octets. length octets.items ≤ limit) }
     ensures whole { IfSome (T.remaining file) (λ rest. IfOk result (λ octets. octets.items ≡ rest)) }
     ensures too_long { IfSome (T.remaining file) (λ rest. result ≡ Err ShelfRefusal.TooLong → limit < length rest) }

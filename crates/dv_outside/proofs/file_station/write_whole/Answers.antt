@@ -9,9 +9,9 @@ loop-preserved g c =
     let contents = g.W.Write.contents in
     let Reached = λ (done : ℕ). HasWritten (contents c.args.out.now) (contents c.write.new.self) c.args.bytes.now done in
     elim c.match-write.branch [
-      in-Ok w ↦ subst Reached (sym w.done-is)
+      | in-Ok w ↦ subst Reached (sym w.done-is)
           (written_more (contents c.args.out.now) (contents c.loop.out) (contents c.write.new.self) c.args.bytes.now c.loop.done w.in-Ok.n c.loop.invariant
           w.in-Ok.ensures.bound w.in-Ok.ensures.bytes)
-    | in-Err w ↦ subst Reached (sym w.done-is)
+      | in-Err w ↦ subst Reached (sym w.done-is)
           (written_same (contents c.args.out.now) (contents c.loop.out) (contents c.write.new.self) c.args.bytes.now c.loop.done c.loop.invariant w.in-Err.ensures.bytes)
     ]

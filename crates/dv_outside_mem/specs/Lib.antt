@@ -1,0 +1,9 @@
+pub mod Plan
+pub mod Source
+pub mod Clock
+pub mod Amount
+pub mod Meter
+pub mod Sent
+pub mod MemShelf
+pub mod MemStation
+pub mod MemDiag
