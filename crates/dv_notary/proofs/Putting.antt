@@ -1,0 +1,16 @@
+-- What a put says of its octets, in the words of the command's status.
+use Rattle.std.proofs.Common.{◌≡◌, ℕ, List, Ok, Err, subst}
+use Rattle.dv_outside.specs.Station.{Content, Puts}
+use Rattle.dv_notary.specs.Tool.{put_result}
+
+-- a put that succeeded
+pub put_done : {T E : Type 0} (x : T) (octets request : List ℕ) (old new : Content) → octets ≡ request
+    → Puts {T = T} {E = E} octets (Ok x) old new → Puts request (put_result 0) old new
+put_done x octets request old new same put =
+    subst (λ (o : List ℕ). Puts o (put_result 0) old new) same (record { keeps = put.keeps; sending = put.sending; whole = put.whole })
+
+-- a put that failed
+pub put_cut : {T E : Type 0} (e : E) (octets request : List ℕ) (old new : Content) → octets ≡ request
+    → Puts {T = T} {E = E} octets (Err e) old new → Puts request (put_result 5) old new
+put_cut e octets request old new same put =
+    subst (λ (o : List ℕ). Puts o (put_result 5) old new) same (record { keeps = put.keeps; sending = put.sending; whole = tt })

@@ -1,0 +1,62 @@
+//! The notary's program: it reads its words, makes the objects of the real world, and hands both to a top call.
+//!
+//! A top call is generic over what it is lent ([`dv_outside`]'s traits), so its contract, which says what each command puts
+//! and when each exit status comes, holds over files, over memory and over any other world. So far there is one top call,
+//! [`tool::run_tool`], and one command, `request cpd FILE`.
+//!
+//! The crate stands on `dv_request`, which makes the octets, and on `dv_outside`.
+#![tactic(auto)]
+
+mod line;
+mod status;
+mod tool;
+
+use crate::status::Status;
+use crate::tool::run_tool;
+use dv_outside::{Diag, DirShelf, FileStation, StdDiag, StdSource, SystemClock};
+use std::env;
+use std::env::Env;
+use std::io::ErrorKind;
+use std::process::ExitCode;
+
+// The words after the program's name, or the status where they can't be had.
+fn words_of(rt: &(impl Env + AllocGlobal)) -> Result<Vec<String>, Status> {
+    let words = match env::args(rt) {
+        Ok(words) => words,
+        Err(error) if error.kind() == ErrorKind::OutOfMemory => return Err(Status::Memory),
+        // A word that is no UTF-8 is in no line.
+        Err(_) => return Err(Status::Words),
+    };
+    words
+        .skip(1)
+        .collect(rt.alloc())
+        .map_err(|_| Status::Memory)
+}
+
+fn main(rt: HostRuntime) -> ExitCode {
+    let mut diag = StdDiag::new(&rt);
+    let words = match words_of(&rt) {
+        Ok(words) => words,
+        Err(status) => {
+            diag.line(match status {
+                Status::Memory => "there is not enough memory for the words",
+                _ => "a word of the command line isn't UTF-8",
+            });
+            return ExitCode::from(status.number());
+        }
+    };
+    let path = match words.as_slice() {
+        [_, path, ..] => path.as_str(),
+        _ => "",
+    };
+    let (status, _station) = run_tool(
+        &rt,
+        words.as_slice(),
+        &mut DirShelf::new(&rt),
+        &mut StdSource::new(&rt),
+        &mut SystemClock::new(&rt),
+        &mut diag,
+        FileStation::new(&rt, path),
+    );
+    ExitCode::from(status)
+}

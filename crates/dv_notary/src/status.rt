@@ -1,0 +1,29 @@
+//! Exit statuses.
+ghost use Rattle.std.specs.Prelude.{◌≡◌};
+ghost use Rattle.dv_notary.specs.Status.{number_of};
+
+/// Why a command ended.
+#[derive(Clone, Copy, Debug, PartialEq, Eq)]
+pub enum Status {
+    /// The command did its whole work.
+    Done = 0,
+    /// The words are no line of the program.
+    Words = 2,
+    /// A file is too long.
+    File = 3,
+    /// The output could not be written.
+    Put = 5,
+    /// There was not enough memory.
+    Memory = 8,
+    /// A file could not be read.
+    Shelf = 10,
+}
+
+impl Status {
+    /// The number with which the program ends.
+    pub fn number(self) -> u8
+        ensures { result ≡ number_of self }
+    {
+        self as u8
+    }
+}
