@@ -73,3 +73,41 @@ impl<R: Files> Shelf for DirShelf<'_, R> {
         result
     }
 }
+
+#[cfg(test)]
+mod tests {
+    use super::*;
+    use std::test::Fail;
+    use std::{env, fs, process};
+
+    #[test]
+    fn reads_files_within_the_limit(rt: HostRuntime) -> Result<(), Fail> {
+        let alloc = rt.alloc();
+        let folder = env::temp_dir(&rt)?;
+        let id = process::id(rt.process());
+        let path = folder.join(alloc, format!(in alloc; "dv_outside-shelf-{id}")?)?;
+        let missing = folder.join(alloc, format!(in alloc; "dv_outside-none-{id}")?)?;
+        fs::write(&rt, path.as_path(), b"abc")?;
+        let mut shelf = DirShelf::new(&rt);
+        let rows = [
+            (path.as_str(), 3, None, 0),
+            (path.as_str(), 2, Some(ShelfRefusal::TooLong), 0),
+            (missing.as_str(), 3, Some(ShelfRefusal::Failed), 1),
+            (folder.as_str(), 3, Some(ShelfRefusal::Failed), 2),
+        ];
+        for (name, limit, refusal, faults) in rows {
+            let answer = shelf.read(alloc, name, limit);
+            assert_eq!(rt; shelf.faults, faults, "at {name} {limit}");
+            assert_eq!(rt;
+                answer.as_ref().err().copied(),
+                refusal,
+                "at {name} {limit}"
+            );
+            if let Ok(octets) = answer {
+                assert_eq!(rt; octets.as_slice(), b"abc".as_slice());
+            }
+        }
+        fs::remove_file(&rt, path.as_path())?;
+        Ok(())
+    }
+}

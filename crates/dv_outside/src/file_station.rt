@@ -64,3 +64,54 @@ impl<R: Files + Print> Station for FileStation<'_, R> {
         }
     }
 }
+
+#[cfg(test)]
+mod tests {
+    use super::*;
+    use std::test::Fail;
+
+    // Takes at most two octets at a time, after a signal, and none once it is full.
+    #[derive(Drop)]
+    struct Narrow {
+        taken: Vec<u8>,
+        turn: u8,
+        room: usize,
+    }
+
+    impl Write for Narrow {
+        fn write(&mut self, buf: &[u8]) -> io::Result<usize> {
+            self.turn = self.turn.saturating_add(1);
+            if self.turn % 2 == 1 {
+                return Err(io::Error::from(ErrorKind::Interrupted));
+            }
+            let n = buf
+                .len()
+                .min(2)
+                .min(self.room.saturating_sub(self.taken.len()));
+            self.taken.extend_from_slice(&buf[..n])?;
+            Ok(n)
+        }
+
+        fn flush(&mut self) -> io::Result<()> {
+            Ok(())
+        }
+    }
+
+    #[test]
+    fn a_short_write_loses_nothing(rt: HostRuntime) -> Result<(), Fail> {
+        let alloc = rt.alloc();
+        for (room, whole) in [(5, true), (4, false)] {
+            let mut out = Narrow {
+                taken: Vec::new(alloc),
+                turn: 0,
+                room,
+            };
+            assert_eq!(rt; write_whole(&mut out, b"abcde").is_ok(), whole);
+            assert_eq!(rt; out.taken.as_slice(), &b"abcde"[..room]);
+        }
+        let mut station = FileStation::new(&rt, "");
+        assert_eq!(rt; station.put(b"standard output"), Ok(()));
+        assert_eq!(rt; station.put_faults, 0);
+        Ok(())
+    }
+}

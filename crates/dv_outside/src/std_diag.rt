@@ -19,3 +19,13 @@ impl<R: Eprint> Diag for StdDiag<'_, R> {
         let _ = self.rt.eprintln(text);
     }
 }
+
+#[cfg(test)]
+mod tests {
+    use super::*;
+
+    #[test]
+    fn writes_a_line(rt: HostRuntime) {
+        StdDiag::new(&rt).line("a line for people");
+    }
+}

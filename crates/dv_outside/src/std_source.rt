@@ -3,21 +3,21 @@ ghost use Rattle.std.specs.Prelude.{◌≡◌, ◌≤◌, None, IfOk, length};
 
 use crate::{Failed, Source};
 use std::io;
-use std::io::{ErrorKind, Input, Read};
+use std::io::{ErrorKind, Read};
 
-/// The standard input. It tells no content.
+/// What a reader gives, as the standard input. It tells no content.
 #[derive(Drop)]
-pub struct StdSource<R: Input> {
-    reader: R::Reader,
+pub struct StdSource<R: Read> {
+    reader: R,
     ended: bool,
     faults: u64,
 }
 
-impl<R: Input> StdSource<R> {
-    /// The standard input of this runtime, of which nothing was read by this object.
-    pub fn new(rt: &R) -> Self {
+impl<R: Read> StdSource<R> {
+    /// What this reader gives from here on. The standard input of a runtime `rt` is `rt.reader()`.
+    pub fn new(reader: R) -> Self {
         StdSource {
-            reader: rt.reader(),
+            reader,
             ended: false,
             faults: 0,
         }
@@ -25,7 +25,7 @@ impl<R: Input> StdSource<R> {
 }
 
 // A read that a signal interrupts is made again.
-fn read_once<T: Read>(reader: &mut T, into: &mut [u8]) -> io::Result<usize>
+fn read_once<R: Read>(reader: &mut R, into: &mut [u8]) -> io::Result<usize>
     ensures { IfOk result (λ n. n ≤ length into.new) }
 {
     for _ in 0..u64::MAX {
@@ -37,7 +37,7 @@ fn read_once<T: Read>(reader: &mut T, into: &mut [u8]) -> io::Result<usize>
     Err(io::Error::from(ErrorKind::Interrupted))
 }
 
-impl<R: Input> Source for StdSource<R> {
+impl<R: Read> Source for StdSource<R> {
     ghost left = { λ _. None };
 
     ghost ended = { λ s. s.ended };
@@ -55,6 +55,49 @@ impl<R: Input> Source for StdSource<R> {
                 self.faults = self.faults.saturating_add(1);
                 Err(Failed)
             }
+        }
+    }
+}
+
+#[cfg(test)]
+mod tests {
+    use super::*;
+
+    // Answers in turn: a signal, an octet, a fault, an octet, and then the end.
+    #[derive(Drop)]
+    struct Turns(u8);
+
+    impl Read for Turns {
+        fn read(&mut self, buf: &mut [u8]) -> io::Result<usize> {
+            self.0 = self.0.saturating_add(1);
+            match (self.0, buf.first_mut()) {
+                (1, _) => Err(io::Error::from(ErrorKind::Interrupted)),
+                (3, _) => Err(io::Error::from(ErrorKind::BrokenPipe)),
+                (2 | 4, Some(first)) => {
+                    *first = self.0;
+                    Ok(1)
+                }
+                _ => Ok(0),
+            }
+        }
+    }
+
+    #[test]
+    fn counts_faults_and_sees_the_end(rt: HostRuntime) {
+        let mut source = StdSource::new(Turns(0));
+        let mut into = [0; 4];
+        let rows = [
+            (Ok(1), 2, false, 0),
+            (Err(Failed), 2, false, 1),
+            (Ok(1), 4, false, 1),
+            (Ok(0), 4, true, 1),
+        ];
+        for (answer, first, ended, faults) in rows {
+            assert_eq!(rt; source.read(&mut into), answer);
+            assert_eq!(rt;
+                (into[0], source.ended, source.faults),
+                (first, ended, faults)
+            );
         }
     }
 }

@@ -33,3 +33,38 @@ impl<R: rt::Clock> Clock for SystemClock<'_, R> {
         }
     }
 }
+
+#[cfg(test)]
+mod tests {
+    use super::*;
+    use std::io;
+    use std::io::ErrorKind;
+    use std::time::Duration;
+
+    #[derive(Drop)]
+    struct Stopped;
+
+    impl rt::Clock for Stopped {
+        fn monotonic(&self) -> io::Result<Duration> {
+            Err(io::Error::from(ErrorKind::Unsupported))
+        }
+
+        fn since_1970(&self) -> io::Result<Duration> {
+            Err(io::Error::from(ErrorKind::Unsupported))
+        }
+    }
+
+    #[test]
+    fn asks_the_system(rt: HostRuntime) {
+        let mut clock = SystemClock::new(&rt);
+        // The year 2020 is over, and 9999 isn't.
+        let moment = clock.now().unwrap_or(0);
+        assert!(rt; 1_600_000_000 < moment && moment < 253_402_300_800);
+        assert_eq!(rt; clock.faults, 0);
+
+        let stopped = Stopped;
+        let mut clock = SystemClock::new(&stopped);
+        assert_eq!(rt; clock.now(), Err(Failed));
+        assert_eq!(rt; clock.faults, 1);
+    }
+}

@@ -77,3 +77,19 @@ impl Clock for MemClock {
         Ok(moment)
     }
 }
+
+#[cfg(test)]
+mod tests {
+    use super::*;
+    use std::test::Fail;
+
+    #[test]
+    fn repeats_its_last_answer(rt: HostRuntime) -> Result<(), Fail> {
+        let alloc = rt.alloc();
+        let mut clock = MemClock::new(vec![in alloc; 7, 5]?, vec![in alloc; 0, 3]?);
+        for answer in [Err(Failed), Ok(7), Ok(5), Err(Failed), Ok(5), Ok(5)] {
+            assert_eq!(rt; clock.now(), answer);
+        }
+        Ok(())
+    }
+}

@@ -48,3 +48,18 @@ impl Diag for MemDiag {
         let _ = self.keep(text);
     }
 }
+
+#[cfg(test)]
+mod tests {
+    use super::*;
+
+    #[test]
+    fn keeps_lines(rt: HostRuntime) {
+        let mut diag = MemDiag::new(rt.alloc());
+        diag.line("one");
+        diag.line("two");
+        let lines = diag.lines();
+        assert_eq!(rt; lines.len(), 2);
+        assert_eq!(rt; lines[1].as_str(), "two");
+    }
+}

@@ -63,3 +63,36 @@ impl Shelf for MemShelf {
         }
     }
 }
+
+#[cfg(test)]
+mod tests {
+    use super::*;
+    use std::test::Fail;
+
+    #[test]
+    fn finds_files_by_name(rt: HostRuntime) -> Result<(), Fail> {
+        let alloc = rt.alloc();
+        let mut files = BTreeMap::new(alloc);
+        files.insert("a".to_string(alloc)?, b"abc".to_vec(alloc)?)?;
+        let mut shelf = MemShelf::new(files, vec![in alloc; 1]?);
+        let rows = [
+            ("a", 3, None),
+            ("a", 3, Some(ShelfRefusal::Failed)),
+            ("a", 2, Some(ShelfRefusal::TooLong)),
+            ("b", 3, Some(ShelfRefusal::Failed)),
+            ("a", 4, None),
+        ];
+        for (name, limit, refusal) in rows {
+            let answer = shelf.read(alloc, name, limit);
+            assert_eq!(rt;
+                answer.as_ref().err().copied(),
+                refusal,
+                "at {name} {limit}"
+            );
+            if let Ok(octets) = answer {
+                assert_eq!(rt; octets.as_slice(), b"abc".as_slice());
+            }
+        }
+        Ok(())
+    }
+}

@@ -120,3 +120,32 @@ impl Source for MemSource {
         Ok(n)
     }
 }
+
+#[cfg(test)]
+mod tests {
+    use super::*;
+    use std::test::Fail;
+
+    #[test]
+    fn gives_pieces_and_fails_at_listed_calls(rt: HostRuntime) -> Result<(), Fail> {
+        let alloc = rt.alloc();
+        let octets = b"abcdefg".to_vec(alloc)?;
+        let cuts = vec![in alloc; 2, 9, 1]?;
+        let failing = vec![in alloc; 1]?;
+        let mut source = MemSource::new(octets, cuts, failing);
+        let rows: [(Result<usize, Failed>, &[u8]); 6] = [
+            (Ok(2), b"ab"),
+            (Err(Failed), b"ab"),
+            (Ok(3), b"cde"),
+            (Ok(1), b"fde"),
+            (Ok(1), b"gde"),
+            (Ok(0), b"gde"),
+        ];
+        let mut into = *b"...";
+        for (answer, front) in rows {
+            assert_eq!(rt; source.read(&mut into), answer);
+            assert!(rt; into.starts_with(front));
+        }
+        Ok(())
+    }
+}

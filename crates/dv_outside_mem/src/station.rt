@@ -117,3 +117,28 @@ impl Station for MemStation {
         }
     }
 }
+
+#[cfg(test)]
+mod tests {
+    use super::*;
+    use std::test::Fail;
+
+    #[test]
+    fn keeps_what_is_put_within_its_room(rt: HostRuntime) -> Result<(), Fail> {
+        let alloc = rt.alloc();
+        let mut station = MemStation::new(alloc, Vec::new(alloc), vec![in alloc; 1]?, 3, 9)?;
+        let rows: [(&[u8], Result<(), Failed>, &[u8], u64); 5] = [
+            (b"ab", Ok(()), b"ab", 1),
+            (b"cdefg", Err(Failed), b"abcd", 2),
+            (b"hi", Ok(()), b"abcdhi", 3),
+            (b"", Err(Failed), b"abcdhi", 3),
+            (b"", Err(Failed), b"abcdhi", 3),
+        ];
+        for (piece, answer, sent, calls) in rows {
+            assert_eq!(rt; station.put(piece), answer);
+            assert_eq!(rt; station.sent(), sent);
+            assert_eq!(rt; station.calls(), calls);
+        }
+        Ok(())
+    }
+}
