@@ -53,7 +53,7 @@ fn main(rt: HostRuntime) -> ExitCode {
         &rt,
         words.as_slice(),
         &mut DirShelf::new(&rt),
-        &mut StdSource::new(&rt),
+        &mut StdSource::new(rt.reader()),
         &mut SystemClock::new(&rt),
         &mut diag,
         FileStation::new(&rt, path),
