@@ -1,6 +1,5 @@
 -- The list of a clock's answers.
-use Rattle.std.proofs.Common.{◌≡◌, ◌∙◌, ℕ, suc, ◌+◌, List, [], ◌∷◌, ◌++◌, ap, refl, arith, add-one}
-use Rattle.std.specs.Prelude.{Option, Some}
+use Rattle.std.proofs.Common.{◌≡◌, ℕ, ◌+◌, List, [], ◌∷◌, ◌++◌, ap, add-one}
 use Rattle.dv_outside_mem.specs.Clock.{answer_at, first_answers}
 
 -- One answer more.

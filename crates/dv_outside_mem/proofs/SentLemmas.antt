@@ -1,10 +1,10 @@
 -- A put joins those that were made.
-use Rattle.std.proofs.Common.{◌≡◌, ◌∙◌, ℕ, ◌+◌, ◌<◌, ◌≤◌, List, [], ◌∷◌, ◌++◌, length, take, drop, sum, ap, refl, sym, arith, length-append, length-take}
+use Rattle.std.proofs.Common.{◌≡◌, ◌∙◌, ℕ, ◌+◌, ◌<◌, ◌≤◌, List, [], ◌∷◌, ◌++◌, length, take, drop, sum, ap, sym, arith, length-append, length-take}
 use Rattle.std.proofs.lemmas.List.{take_all, take-append-le, take-append-drop}
 use Rattle.std.proofs.lemmas.List.Sums.{sum_by-append}
 use Rattle.std.specs.Prelude.{Result, OnOk}
 use Rattle.std.proofs.lemmas.Result.{on_ok_weaker}
-use Rattle.dv_outside.specs.Station.{Content, Puts}
+use Rattle.dv_outside.specs.Station.{Puts}
 use Rattle.dv_outside_mem.specs.Sent.{content_of}
 
 -- The sum of two lists, one after the other.

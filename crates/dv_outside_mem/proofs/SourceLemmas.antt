@@ -1,7 +1,7 @@
 -- What a read takes of octets that come in pieces.
-use Rattle.std.proofs.Common.{◌≡◌, ◌∙◌, ℕ, ◌+◌, ◌-◌, ◌<◌, ◌≤◌, min, Bool, List, [], ◌∷◌, ◌++◌, length, take, drop, get_or, refl, ap, subst, sym, arith, length-take, length-drop, lit<, All}
-use Rattle.std.proofs.lemmas.List.{take-append-drop, take_at, drop-drop, drop_all, get_or-drop}
-use Rattle.std.specs.Prelude.{Some, Ok, Result}
+use Rattle.std.proofs.Common.{◌≡◌, ◌∙◌, ℕ, ◌+◌, ◌-◌, ◌<◌, ◌≤◌, min, List, [], ◌∷◌, ◌++◌, length, take, drop, get_or, refl, ap, subst, sym, arith, length-take, length-drop, lit<, All}
+use Rattle.std.proofs.lemmas.List.{take-append-drop, take_at, get_or-drop}
+use Rattle.std.specs.Prelude.{Some, Ok}
 use Rattle.dv_outside.specs.Source.{Takes}
 use Rattle.dv_outside_mem.specs.Source.{next_size}
 

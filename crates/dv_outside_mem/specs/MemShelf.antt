@@ -1,5 +1,5 @@
 -- What contracts see of a shelf in memory.
-use Rattle.std.specs.Prelude.{◌≡◌, ◌⊎◌, ℕ, List, Option, None, String, Vec}
+use Rattle.std.specs.Prelude.{ℕ, List, Option, String, Vec}
 use Rattle.std.specs.Option.{option_map}
 use Rattle.std.specs.BTreeMap.{BTreeMap, get_by_text}
 use Rattle.std.specs.declared.alloc.Global.{Global}

@@ -1,5 +1,5 @@
 -- What contracts see of a station in memory.
-use Rattle.std.specs.Prelude.{◌≡◌, ℕ, List, Some}
+use Rattle.std.specs.Prelude.{ℕ, List, Some}
 use Rattle.dv_outside.specs.Station.{Content, Counts, Amount}
 use Rattle.dv_outside_mem.specs.Sent.{content_of}
 use Rattle.dv_outside_mem.specs.declared.station.MemStation.{MemStation}

@@ -1,5 +1,5 @@
 -- One list more is dropped.
-use Rattle.std.proofs.Common.{sym, drop}
+use Rattle.std.proofs.Common.{sym}
 use Rattle.std.proofs.lemmas.List.{drop-drop}
 use Rattle.dv_outside_mem.proofs.source.piece_after.Goals as goal
 

@@ -1,6 +1,4 @@
 -- An answer joins those before it.
-use Rattle.std.proofs.Common.{◌≡◌, ◌∙◌, ◌++◌, ◌∷◌, [], ap, arith, sym, List, ℕ, Some}
-use Rattle.dv_outside_mem.specs.Clock.{ClockState, first_answers}
 use Rattle.dv_outside_mem.proofs.ClockLemmas.{first_answers-suc}
 use Rattle.dv_outside_mem.proofs.clock.MemClockClock.now.Goals as goal
 

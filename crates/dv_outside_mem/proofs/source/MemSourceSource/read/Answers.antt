@@ -1,5 +1,5 @@
 -- A read that works takes a piece off the front of what is left.
-use Rattle.std.proofs.Common.{◌+◌, ◌<◌, ap, length, arith, drop, sym, subst, List, ℕ, Some, Ok}
+use Rattle.std.proofs.Common.{◌+◌, ap, length, arith, drop, sym, subst, List, ℕ, Some, Ok}
 use Rattle.std.proofs.lemmas.List.{drop-drop}
 use Rattle.dv_outside.specs.Source.{Takes}
 use Rattle.dv_outside_mem.specs.Source.{SourceState}

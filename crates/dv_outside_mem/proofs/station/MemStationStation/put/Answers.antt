@@ -1,5 +1,5 @@
 -- A put that fails sends the first half, and one that works sends all.
-use Rattle.std.proofs.Common.{◌≡◌, ◌∙◌, ◌≤◌, ◌/◌, ◌++◌, ◌∷◌, [], length, take, ap, refl, sym, arith, length-take}
+use Rattle.std.proofs.Common.{◌≡◌, ◌∙◌, ◌/◌, ◌++◌, ◌∷◌, [], length, take, ap, refl, sym, arith, length-take}
 use Rattle.std.proofs.lemmas.List.{take_all}
 use Rattle.dv_outside_mem.proofs.SentLemmas.{put_joins}
 use Rattle.dv_outside_mem.proofs.station.MemStationStation.put.Goals as goal
