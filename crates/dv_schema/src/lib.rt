@@ -9,6 +9,7 @@
 //! What it stands on: std alone.
 #![tactic(auto)]
 
+pub mod laws;
 mod refusal;
 
 pub use refusal::{Der, Why};
