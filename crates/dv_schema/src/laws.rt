@@ -1,7 +1,7 @@
 //! The theorems of the grammar, each as a function that does nothing and ensures it.
 //!
-//! They hold for every schema at once, so a type that is added to the table needs no proof of its own. `is_clear` of a
-//! literal schema computes. Octets are known to be below 256 (`IsBytes`) wherever a slice is read.
+//! They hold for every schema at once, so a type that is added to the table needs no theorem of its own. `is_clear` of
+//! a literal schema computes. `IsBytes`, that octets are below 256, is known of every slice.
 
 ghost use Rattle.std.specs.Prelude.{◌≡◌, ◌≤◌, ◌+◌, ◌⊎◌, ◌↔◌, ℕ, List, [], ◌++◌, length, Ok, Err, IsTrue, IfSome};
 ghost use Rattle.dv_schema.specs.declared.refusal.Der.{Der};
@@ -15,14 +15,23 @@ ghost use Rattle.dv_schema.specs.Decodes.{IsSpelled, RefusedBehind};
 /// What is read fits and is spelled so, and the spot that is left stands behind it.
 pub fn read_is_spelled()
     ensures { (s : Schema) (p q : Spot) (v : ValueOf s) → IsBytes p.rest → read s p ≡ Ok (v, q)
-        → Fits s p.levels v × (p.rest ≡ spelling s v ++ q.rest) × (q.place ≡ p.place + length (spelling s v)) × (q.levels ≡ p.levels) }
+        → Fits s p.levels v × (p.rest ≡ spelling s v ++ q.rest)
+        × (q.place ≡ p.place + length (spelling s v)) × (q.levels ≡ p.levels) }
 {}
 
 /// What fits and is spelled so is read, whatever follows.
 #[tactic(auto, using(crate::proofs::Again::spelled))]
 pub fn spelled_is_read()
-    ensures { (s : Schema) (p : Spot) (v : ValueOf s) (rest : List ℕ) → IsTrue (is_clear s) → Fits s p.levels v → p.rest ≡ spelling s v ++ rest
-        → read s p ≡ Ok (v, record { levels = p.levels; place = p.place + length (spelling s v); rest = rest }) }
+    ensures { (s : Schema) (p : Spot) (v : ValueOf s) (rest : List ℕ) → IsTrue (is_clear s)
+        → Fits s p.levels v → p.rest ≡ spelling s v ++ rest
+        → read s p ≡ Ok (
+          v,
+          record {
+            levels = p.levels;
+            place = p.place + length (spelling s v);
+            rest = rest;
+          },
+        ) }
 {}
 
 /// The whole of a slice is read as a value exactly where it is the value's spelling.
@@ -33,19 +42,23 @@ pub fn slice_is_read_where_spelled()
 
 /// Octets begin with a value's spelling, or they are refused, and never both.
 pub fn value_or_refusal()
-    ensures either { (s : Schema) (p : Spot) → IsBytes p.rest → IsSpelled s p ⊎ ((d : Der) × (read s p ≡ Err d)) }
-    ensures not_both { (s : Schema) (p : Spot) (d : Der) → IsTrue (is_clear s) → IsSpelled s p → read s p ≡ Err d → ⊥ }
+    ensures either { (s : Schema) (p : Spot) → IsBytes p.rest
+        → IsSpelled s p ⊎ ((d : Der) × (read s p ≡ Err d)) }
+    ensures not_both { (s : Schema) (p : Spot) (d : Der) → IsTrue (is_clear s)
+        → IsSpelled s p → read s p ≡ Err d → ⊥ }
 {}
 
 /// Each spelling spells one value.
 #[tactic(auto, using(crate::proofs::Spellings::one_spelling))]
 pub fn one_value()
-    ensures { (s : Schema) (m n : ℕ) (v w : ValueOf s) → IsTrue (is_clear s) → Fits s m v → Fits s n w → spelling s v ≡ spelling s w → v ≡ w }
+    ensures { (s : Schema) (m n : ℕ) (v w : ValueOf s) → IsTrue (is_clear s) → Fits s m v → Fits s n w
+        → spelling s v ≡ spelling s w → v ≡ w }
 {}
 
 /// No spelling is a proper prefix of another one.
 pub fn no_proper_prefix()
-    ensures { (s : Schema) (m n : ℕ) (v w : ValueOf s) (rest : List ℕ) → IsTrue (is_clear s) → Fits s m v → Fits s n w → spelling s v ++ rest ≡ spelling s w → rest ≡ [] }
+    ensures { (s : Schema) (m n : ℕ) (v w : ValueOf s) (rest : List ℕ) → IsTrue (is_clear s)
+        → Fits s m v → Fits s n w → spelling s v ++ rest ≡ spelling s w → rest ≡ [] }
 {}
 
 /// What fits with fewer levels fits with more.
@@ -54,10 +67,14 @@ pub fn more_levels()
     ensures { (s : Schema) (m n : ℕ) (v : ValueOf s) → m ≤ n → Fits s m v → Fits s n v }
 {}
 
-/// A refusal among fields is that of the first one, or the first one is spelled and the refusal comes behind it.
+/// A refusal among fields is that of the first one, or the first one is spelled and the refusal is that of what follows.
 pub fn refusal_is_the_first()
-    ensures present { (s : Schema) (b : Body) (own : ℕ) (p : Spot) (d : Der) → IsBytes p.rest → read_fields (field s b) own p ≡ Err d
+    ensures present { (s : Schema) (b : Body) (own : ℕ) (p : Spot) (d : Der) → IsBytes p.rest
+        → read_fields (field s b) own p ≡ Err d
         → (read s p ≡ Err d) ⊎ RefusedBehind (spelling s) (Fits s p.levels) b own p d }
-    ensures optional { (s : Schema) (b : Body) (own : ℕ) (p : Spot) (d : Der) → IsBytes p.rest → read_fields (optional s b) own p ≡ Err d
-        → (IsTrue (starts_list (starts s) p.rest) × (read s p ≡ Err d)) ⊎ RefusedBehind (spelled_if (spelling s)) (λ o. IfSome o (Fits s p.levels)) b own p d }
+    // A field that may be absent is refused only where its tag is there.
+    ensures optional { (s : Schema) (b : Body) (own : ℕ) (p : Spot) (d : Der) → IsBytes p.rest
+        → read_fields (optional s b) own p ≡ Err d
+        → (IsTrue (starts_list (starts s) p.rest) × (read s p ≡ Err d))
+        ⊎ RefusedBehind (spelled_if (spelling s)) (λ o. IfSome o (Fits s p.levels)) b own p d }
 {}
