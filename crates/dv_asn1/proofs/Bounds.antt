@@ -1,16 +1,16 @@
--- The number of a few octets stays small.
-use Rattle.std.proofs.Common.{◌≡◌, ℕ, ◌+◌, ◌*◌, ◌/◌, ◌%◌, ◌<◌, ◌≤◌, ◌^◌, arith, zero, suc, List, [], ◌∷◌, ◌++◌, length, get_or, ◌⊎◌, inl, inr, ◌≢◌, true, not, ◌&&◌, ltb, leb, ap, ◌∙◌, refl, ◌-◌, sym, drop}
+-- How large the numbers of a few octets are, and the end of a comparison of two lists.
+use Rattle.std.proofs.Common.{◌≡◌, ℕ, ◌+◌, ◌*◌, ◌<◌, ◌≤◌, ◌^◌, arith, zero, suc, List, [], ◌∷◌, length, get_or, ◌⊎◌, inl, inr, ◌≢◌, true, not, ◌&&◌, ltb, leb, ap, ◌∙◌, refl, ◌-◌, sym, drop}
 use Rattle.std.proofs.lemmas.Bool.{ltb-false, ltb-true, leb-true, lt-ltb, le-ltb, cases_Bool}
 use Rattle.std.proofs.lemmas.List.{length-drop}
 use Rattle.dv_schema.specs.Octets.{is_less}
 use Rattle.dv_schema.specs.Rules.{is_integer, is_number}
 use Rattle.std.proofs.lemmas.Bool.{and_parts}
 use Rattle.std.proofs.lemmas.Bool.{not-true}
-use Rattle.std.specs.Int.Digits.{digits_of, number_from_digits, number_from_digits_after}
-use Rattle.std.proofs.lemmas.Int.Digits.{digits_of_step, length-digits_of_step, length-digits_of-le, first_digits_of}
+use Rattle.std.specs.Int.Digits.{number_from_digits, number_from_digits_after}
 use Rattle.std.proofs.Math.Nat.{pow-le-pow_right}
 use Rattle.std.proofs.lemmas.Grind.{pow_more}
 
+-- fewer than eight octets make a number that can be multiplied by 256 once more
 pub small : (i n : ℕ) → i < 8 → n < 256 ^ i → n < 72057594037927936
 small i n lt h =
     let le : i ≤ 7 = omega arith in
@@ -18,11 +18,13 @@ small i n lt h =
     let p : 256 ^ i ≤ 256 ^ 7 = pow-le-pow_right {n = 256} pos {i = i} {j = 7} le in
     omega (arith, p)
 
+-- one octet more makes a number below one power more
 pub grows : (i n d : ℕ) → n < 256 ^ i → d < 256 → n * 256 + d < 256 ^ (i + 1)
 grows i n d h k =
     let p : 256 ^ (i + 1) ≡ 256 ^ i * 256 = pow_more 256 i in
     omega (arith, p)
 
+-- a number of digits is at least what stands before them, in its place
 at_least : (n : ℕ) (ds : List ℕ) → n * 256 ^ length ds ≤ number_from_digits_after 256 n ds
 at_least n [] = omega arith
 at_least n (d ∷ ds) =
@@ -34,6 +36,7 @@ at_least n (d ∷ ds) =
     let t : n * 256 ^ suc (length ds) ≡ n * (256 ^ length ds * 256) = ap (λ (k : ℕ). n * k) q in
     omega (arith, t, r, ih)
 
+-- nine octets or more, the first not 0, make 2^64 or more
 long_big : (d : ℕ) (ds : List ℕ) → 0 < d → 8 ≤ length ds → 18446744073709551616 ≤ number_from_digits 256 (d ∷ ds)
 long_big d ds pos le =
     let a = at_least (0 * 256 + d) ds in
@@ -46,6 +49,7 @@ long_big d ds pos le =
     grow zero k pos = absurd (omega arith)
     grow (suc d) k pos = omega arith
 
+-- an INTEGER with more than eight octets, a zero octet in front not counted, is no number of 64 bits
 pub too_long : (contents : List ℕ) (most : ℕ) → most < 18446744073709551616 → is_integer contents ≡ true
     → (((get_or contents 0 0 ≡ 0) × (8 < length contents - 1)) ⊎ ((get_or contents 0 0 ≢ 0) × (8 < length contents))) → is_number (λ n. leb n most) contents ≡ true → ⊥
 too_long [] most small int (inl h) e = omega arith
@@ -66,6 +70,7 @@ too_long (suc b ∷ cs) most small int (inr h) e =
     let upto : number_from_digits 256 (suc b ∷ cs) ≤ most = leb-true _ _ q.1 in
     omega (arith, big, upto)
 
+-- where one list has ended, the shorter one is less
 less_ends : (l r : List ℕ) → (length l ≡ 0) ⊎ (length r ≡ 0) → is_less l r ≡ ltb (length l) (length r)
 less_ends [] [] e = refl
 less_ends [] (y ∷ ys) e = sym (lt-ltb _ _ (omega arith))
@@ -73,6 +78,7 @@ less_ends (x ∷ xs) [] e = sym (le-ltb _ _ (omega arith))
 less_ends (x ∷ xs) (y ∷ ys) (inl e) = absurd (omega arith)
 less_ends (x ∷ xs) (y ∷ ys) (inr e) = absurd (omega arith)
 
+-- a comparison less the same on both sides
 ltb_minus : (i a b : ℕ) → i ≤ a → i ≤ b → ltb (a - i) (b - i) ≡ ltb a b
 ltb_minus i a b p q =
     elim (cases_Bool (ltb a b)) [
@@ -80,6 +86,7 @@ ltb_minus i a b p q =
       | inr f ↦ let le : b ≤ a = ltb-false _ _ f in le-ltb _ _ (omega arith) ∙ sym f
     ]
 
+-- where two lists were the same up to the end of one, the shorter one is less
 pub less_end : (i : ℕ) (l r : List ℕ) → i ≤ length l → i ≤ length r → (length l ≡ i) ⊎ (length r ≡ i) → is_less (drop i l) (drop i r) ≡ ltb (length l) (length r)
 less_end i l r p q e =
     let a = length-drop i l in

@@ -246,3 +246,6 @@ impl<'a> Cursor<'a> {
         ))
     }
 }
+
+#[cfg(test)]
+mod tests;

@@ -23,6 +23,9 @@ mod writer;
 pub use cursor::Cursor;
 pub use dv_schema::{Der, Why};
 pub use lists::{OctetLists, Octets, Places};
-pub use members::{AnyValue, Decode, Member, check_members, check_set, count_members, member_at};
+pub use members::{
+    AnyValue, Decode, Member, check_members, check_set, count_members, member_at, read_list,
+    read_optional_list, read_optional_set, read_set,
+};
 pub use rules::same;
 pub use writer::{Writer, header_len, number_len};

@@ -1,10 +1,11 @@
 //! Lists of values of one type: checking their members, counting them, and finding one by its index.
 
-ghost use Rattle.std.specs.Prelude.{◌≡◌, ◌≤◌, List, length, MatchOption, slice_get, Ok, Some};
+ghost use Rattle.std.specs.Prelude.{◌≡◌, ◌≤◌, ◌/◌, ◌%◌, List, length, MatchOption, slice_get, Ok, Some};
+ghost use Rattle.std.specs.Option.{option_copied};
 ghost use Rattle.dv_schema.specs.Schema.{Schema, ValueOf, sequence_of, set_of};
-ghost use Rattle.dv_schema.specs.Reading.{all_at, read, read_fields};
+ghost use Rattle.dv_schema.specs.Reading.{all_at, is_tag_of, maybe_at, read, read_fields, starts_list};
 ghost use Rattle.dv_schema.specs.Answers.{Gives, Passes, Reads, counted, skipped};
-ghost use Rattle.dv_schema.specs.Types.{any};
+ghost use Rattle.dv_schema.specs.Types.{any, list_of, ordered_of};
 
 use crate::cursor::Cursor;
 use dv_schema::{Der, Why};
@@ -80,6 +81,66 @@ pub fn check_set<T: Member>(contents: &Cursor<'_>, some: bool, place: u64) -> Re
     contents.check_order()
 }
 
+/// The contents octets of a list under this constructed tag, whose members are checked.
+pub fn read_list<'a, T: Member>(c: &mut Cursor<'a>, tag: u8, some: bool) -> Result<&'a [u8], Der>
+    requires { tag / 32 % 2 ≡ 1 }
+    ensures { Reads (λ x. x.now) result c.old c.new (read (list_of tag some T.schema) c.old) }
+{
+    let mut next = c.fork();
+    let inside = next.enter(tag)?;
+    check_members::<T>(&inside, some, c.place())?;
+    *c = next;
+    Ok(inside.rest())
+}
+
+/// The same, where the next value has the tag; None, and nothing read, where it hasn't.
+pub fn read_optional_list<'a, T: Member>(
+    c: &mut Cursor<'a>,
+    tag: u8,
+    some: bool,
+) -> Result<Option<&'a [u8]>, Der>
+    requires { tag / 32 % 2 ≡ 1 }
+    ensures { Reads option_copied result c.old c.new
+        (maybe_at (starts_list (is_tag_of tag) c.old.rest) c.old
+        (read (list_of tag some T.schema) c.old)) }
+{
+    if c.next_is(tag) {
+        Ok(Some(read_list::<T>(c, tag, some)?))
+    } else {
+        Ok(None)
+    }
+}
+
+/// The contents octets of a set under this constructed tag, whose members are checked, and then their order.
+pub fn read_set<'a, T: Member>(c: &mut Cursor<'a>, tag: u8, some: bool) -> Result<&'a [u8], Der>
+    requires { tag / 32 % 2 ≡ 1 }
+    ensures { Reads (λ x. x.now) result c.old c.new (read (ordered_of tag some T.schema) c.old) }
+{
+    let mut next = c.fork();
+    let inside = next.enter(tag)?;
+    check_set::<T>(&inside, some, c.place())?;
+    *c = next;
+    Ok(inside.rest())
+}
+
+/// The same, where the next value has the tag; None, and nothing read, where it hasn't.
+pub fn read_optional_set<'a, T: Member>(
+    c: &mut Cursor<'a>,
+    tag: u8,
+    some: bool,
+) -> Result<Option<&'a [u8]>, Der>
+    requires { tag / 32 % 2 ≡ 1 }
+    ensures { Reads option_copied result c.old c.new
+        (maybe_at (starts_list (is_tag_of tag) c.old.rest) c.old
+        (read (ordered_of tag some T.schema) c.old)) }
+{
+    if c.next_is(tag) {
+        Ok(Some(read_set::<T>(c, tag, some)?))
+    } else {
+        Ok(None)
+    }
+}
+
 /// The member at an index, in the contents of a list that was read; None exactly past the last one.
 pub fn member_at<'a, T: Decode<'a> + Drop>(contents: &Cursor<'a>, index: u64) -> Option<T>
     ensures { (vs : List (ValueOf T.schema))
@@ -101,3 +162,6 @@ pub fn member_at<'a, T: Decode<'a> + Drop>(contents: &Cursor<'a>, index: u64) ->
     }
     None
 }
+
+#[cfg(test)]
+mod tests;

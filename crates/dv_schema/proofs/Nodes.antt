@@ -1,5 +1,5 @@
 -- A value whose item is entered and whose contents are checked.
-use Rattle.std.proofs.Common.{◌≡◌, ℕ, Result, Ok, Err, refl}
+use Rattle.std.proofs.Common.{◌≡◌, ℕ, ◌/◌, ◌%◌, true, eqb, eq-eqb, Result, Ok, Err, refl, ap, ◌∙◌}
 use Rattle.dv_schema.specs.declared.refusal.Der.{Der}
 use Rattle.dv_schema.specs.Schema.{Schema, node, raw, Body, kept}
 use Rattle.dv_schema.specs.Reading.{Spot, Item, item_at, taken, read, read_fields, is_tag_of, within}
@@ -48,3 +48,30 @@ kept_value b own p e = let v = skipped_value (read_fields b own p) e in rw v.1 r
 pub kept_fault : (b : Body) (own : ℕ) (p : Spot) (d : Der) → skipped (read_fields b own p) ≡ Err d → read_fields (kept b) own p ≡ Err d
 unfolding read
 kept_fault b own p d e = rw (skipped_fault (read_fields b own p) d e) refl
+
+-- inside a constructed value the levels go on
+within_constructed : (i : Item) → i.tag / 32 % 2 ≡ 1 → within i ≡ i.inside
+within_constructed i e = let t : eqb (i.tag / 32 % 2) 1 ≡ true = eq-eqb _ _ e in rw t refl
+
+-- a constructed value whose contents are kept
+pub constructed_value : (tag : ℕ) (b : Body) (p inside after : Spot) → tag / 32 % 2 ≡ 1 → item_at (is_tag_of tag) p ≡ Ok (record { tag = tag; inside = inside; after = after })
+    → skipped (read_fields b p.place inside) ≡ Ok tt → read (node tag (kept b)) p ≡ Ok (inside.rest, after)
+unfolding read
+constructed_value tag b p inside after e item ok =
+    let i : Item = record { tag = tag; inside = inside; after = after } in
+    let v = skipped_value (read_fields b p.place (within i)) (ap (λ (q : Spot). skipped (read_fields b p.place q)) (within_constructed i e) ∙ ok) in
+    rw (item, v.1) refl
+
+-- and one whose contents are refused
+pub constructed_fault : (tag : ℕ) (b : Body) (p inside after : Spot) (d : Der) → tag / 32 % 2 ≡ 1 → item_at (is_tag_of tag) p ≡ Ok (record { tag = tag; inside = inside; after = after })
+    → skipped (read_fields b p.place inside) ≡ Err d → read (node tag (kept b)) p ≡ Err d
+unfolding read
+constructed_fault tag b p inside after d e item bad =
+    let i : Item = record { tag = tag; inside = inside; after = after } in
+    let v = skipped_fault (read_fields b p.place (within i)) d (ap (λ (q : Spot). skipped (read_fields b p.place q)) (within_constructed i e) ∙ bad) in
+    rw (item, v) refl
+
+-- and one that isn't there
+pub constructed_missing : (tag : ℕ) (b : Body) (p : Spot) (d : Der) → item_at (is_tag_of tag) p ≡ Err d → read (node tag (kept b)) p ≡ Err d
+unfolding read
+constructed_missing tag b p d e = rw e refl

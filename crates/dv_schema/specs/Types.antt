@@ -2,7 +2,7 @@
 use Rattle.std.specs.Prelude.{ℕ, Bool, not, nat_le, List, None}
 use Rattle.dv_schema.specs.Octets.{same_octets}
 use Rattle.dv_schema.specs.Rules.{is_oid, is_bits, is_bool, is_true, is_integer_within, any_octets}
-use Rattle.dv_schema.specs.Schema.{Schema, node, whole, such, Body, plain, unsigned, field, done}
+use Rattle.dv_schema.specs.Schema.{Schema, node, whole, such, Body, plain, unsigned, kept, field, done, sequence_of, set_of}
 
 -- any well-formed value
 abbrev pub any : Schema
@@ -55,3 +55,11 @@ is_not default octets = not (same_octets octets default)
 -- a value other than its default, which is spelled so; a field with a default is `optional (but default s)`
 abbrev pub but : List ℕ → Schema → Schema
 but default s = such (is_not default) s
+
+-- a SEQUENCE OF under this tag, kept as the octets of its members
+abbrev pub list_of : ℕ → Bool → Schema → Schema
+list_of tag some s = node tag (kept (sequence_of some s))
+
+-- a SET OF under this tag, whose members ascend, kept as the octets of its members
+abbrev pub ordered_of : ℕ → Bool → Schema → Schema
+ordered_of tag some s = node tag (kept (set_of some s))

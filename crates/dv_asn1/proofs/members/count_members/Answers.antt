@@ -11,9 +11,11 @@ returns-then-at_end g c =
     let none : eqb (length c.args.contents.now.rest) 0 ≡ true = ap (λ (p : Spot). eqb (length p.rest) 0) (sym c.fork-next.ensures.same) ∙ sym c.at_end.ensures ∙ c.if-at_end.true in
     rw c.new.ensures (ap (counted 0) (members_none g.T.Member.schema c.args.some c.args.place c.args.contents.now c.if-some.true none))
 
+-- a list that needs no member
 and_false : (a b : Bool) → a ≡ false → (a && b) ≡ false
 and_false a b e = rw e refl
 
+-- and one that has one
 and_false_right : (a b : Bool) → b ≡ false → (a && b) ≡ false
 and_false_right true b e = e
 and_false_right false b e = refl

@@ -1,15 +1,17 @@
 use Rattle.std.proofs.Common.{◌≡◌, ◌∷◌, ℕ, List, [], Some, None, true, sym, ap, subst, ◌∙◌, refl}
 use Rattle.std.specs.Prelude.{slice_get}
 use Rattle.dv_schema.specs.Schema.{is_among}
-use Rattle.dv_schema.specs.Reading.{Spot, read, starts_list}
+use Rattle.dv_schema.specs.Reading.{read, starts_list}
 use Rattle.dv_schema.specs.Answers.{Reads}
 use Rattle.dv_schema.proofs.Orders.{whole_among, whole_not, whole_end}
 use Rattle.dv_asn1.proofs.cursor.Cursor.skip_one_of.Goals as goal
 
+-- no tag is there exactly where nothing is
 nothing : (bytes : List ℕ) → None ≡ slice_get bytes 0 → bytes ≡ []
 nothing [] e = refl
 nothing (b ∷ bs) e = absurd cc
 
+-- a tag that is there begins what is left
 begun : (bytes : List ℕ) (t : ℕ) → Some t ≡ slice_get bytes 0 → (ts : List ℕ) × (bytes ≡ t ∷ ts)
 begun [] t e = absurd cc
 begun (b ∷ bs) t e = let same : t ≡ b = cc in (bs, ap (λ (k : ℕ). k ∷ bs) (sym same))
