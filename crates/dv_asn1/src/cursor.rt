@@ -2,7 +2,7 @@
 
 mod values;
 
-ghost use Rattle.std.specs.Prelude.{◌≡◌, ◌≤◌, ◌-◌, ◌<◌, ◌==◌, length, slice_get, Some};
+ghost use Rattle.std.specs.Prelude.{◌≡◌, ◌≤◌, ◌+◌, ◌-◌, ◌<◌, ◌^◌, ◌==◌, length, slice_get, Some};
 ghost use Rattle.dv_schema.specs.Octets.{IsBytes, same_octets};
 ghost use Rattle.dv_schema.specs.Schema.{done, is_among};
 ghost use Rattle.dv_schema.specs.Reading.{item_at, is_tag_of, read_fields, sizes_at, starts_list, taken};
@@ -97,6 +97,7 @@ impl<'a> Cursor<'a> {
         ensures same { result ≡ self.now }
         ensures octets { IsBytes self.now.rest }
         ensures levels { self.now.levels ≤ 32 }
+        ensures room { self.now.place + length self.now.rest < 2 ^ 64 }
     {
         Cursor {
             rest: self.rest,

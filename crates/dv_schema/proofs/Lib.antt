@@ -14,3 +14,4 @@ pub mod Nodes
 pub mod Defaults
 pub mod Distinct
 pub mod Refusals
+pub mod Kept

@@ -1,5 +1,5 @@
 -- What a decoder of a schema answers: this is the public contract of each `decode`.
-use Rattle.std.specs.Prelude.{◌≡◌, ℕ, ◌+◌, List, ◌++◌, length, Result, Err, IfOk, IsOkAnd}
+use Rattle.std.specs.Prelude.{◌≡◌, ℕ, ◌+◌, ◌<◌, ◌^◌, List, ◌++◌, length, Result, Ok, Err, IfOk, IsOkAnd}
 use Rattle.dv_schema.specs.declared.refusal.Der.{Der}
 use Rattle.dv_schema.specs.Schema.{Schema, Body, ValueOf, spelling}
 use Rattle.dv_schema.specs.Fits.{Fits}
@@ -24,9 +24,16 @@ pub record DecodesAll {X : Type 0} (s : Schema) (view : X → ValueOf s) (result
   -- what fits and is spelled so is read
   pub only : (v : ValueOf s) → Fits s start.levels v → start.rest ≡ spelling s v → IsOkAnd result (λ x. view x ≡ v)
 
--- a value that has a spelling; what fits with fewer levels fits with these
-abbrev pub HasSpelling : (s : Schema) → ValueOf s → Type 0
-HasSpelling s v = Fits s 32 v
+-- A value that has a spelling, of fewer than 2^64 octets, as a slice can hold it. What fits with fewer levels fits with 32. Types of
+-- values keep this of their fields.
+unfoldable pub HasSpelling : (s : Schema) → ValueOf s → Type 0
+HasSpelling s v = Fits s 32 v × (length (spelling s v) < 2 ^ 64)
+
+-- The values of a type are read from their spellings, whatever follows: what an outermost decoder reads of what was written is the
+-- value that was written.
+abbrev pub ReadsBack : {X : Type 0} (s : Schema) → (X → ValueOf s) → Type 0
+ReadsBack {X} s view = (x : X) (p : Spot) (rest : List ℕ) → p.levels ≡ 32 → p.rest ≡ spelling s (view x) ++ rest
+    → read s p ≡ Ok (view x, record { levels = p.levels; place = p.place + length (spelling s (view x)); rest = rest })
 
 -- what is left begins with a value's spelling
 abbrev pub IsSpelled : (s : Schema) → Spot → Type 0

@@ -10,7 +10,7 @@ ghost use Rattle.dv_schema.specs.Schema.{Schema, Body, ValueOf, spelling, spelle
 ghost use Rattle.dv_schema.specs.Fits.{Fits};
 ghost use Rattle.dv_schema.specs.Clear.{is_clear};
 ghost use Rattle.dv_schema.specs.Reading.{Spot, read, read_all, read_fields, starts_list};
-ghost use Rattle.dv_schema.specs.Decodes.{IsSpelled, RefusedBehind};
+ghost use Rattle.dv_schema.specs.Decodes.{HasSpelling, IsSpelled, RefusedBehind};
 
 /// What is read fits and is spelled so, and the spot that is left stands behind it.
 pub fn read_is_spelled()
@@ -77,4 +77,19 @@ pub fn refusal_is_the_first()
         → read_fields (optional s b) own p ≡ Err d
         → (IsTrue (starts_list (starts s) p.rest) × (read s p ≡ Err d))
         ⊎ RefusedBehind (spelled_if (spelling s)) (λ o. IfSome o (Fits s p.levels)) b own p d }
+{}
+
+/// A value that is known to have a spelling, without its levels being named, is read from it, whatever follows.
+#[tactic(auto, using(crate::proofs::Kept::kept_again))]
+pub fn kept_is_read_again()
+    ensures { (s : Schema) (v : ValueOf s) (p : Spot) (rest : List ℕ) → IsTrue (is_clear s)
+        → ∥ HasSpelling s v ∥₁ → p.levels ≡ 32 → p.rest ≡ spelling s v ++ rest
+        → read s p ≡ Ok (
+          v,
+          record {
+            levels = p.levels;
+            place = p.place + length (spelling s v);
+            rest = rest;
+          },
+        ) }
 {}
