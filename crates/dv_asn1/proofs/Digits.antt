@@ -15,6 +15,7 @@ length-digits_step n pos = length-digits_of_step 256 n (omega arith) pos
 pub length-digits_le : (n : ℕ) → n < 18446744073709551616 → length (digits_of 256 n) ≤ 8
 length-digits_le n lt = let small : n < 256 ^ 8 = lt in length-digits_of-le 256 8 n (omega arith) small
 
+-- a list whose first digit isn't 0 has the same one whatever follows
 first-append : (xs ys : List ℕ) → 0 < get_or xs 0 0 → get_or (xs ++ ys) 0 0 ≡ get_or xs 0 0
 first-append [] ys h = absurd (omega arith)
 first-append (x ∷ xs) ys h = refl

@@ -1,2 +1,11 @@
 pub mod Refusal
 pub mod Tlv
+pub mod Octets
+pub mod Rules
+pub mod Schema
+pub mod Fits
+pub mod Clear
+pub mod Reading
+pub mod Answers
+pub mod Decodes
+pub mod Types

@@ -56,6 +56,15 @@ pub struct Der {
     pub why: Why,
 }
 
+impl Der {
+    /// The refusal at this place for this reason.
+    pub fn new(place: u64, why: Why) -> Der
+        ensures { result ≡ record { place = place; why = why } }
+    {
+        Der { place, why }
+    }
+}
+
 impl fmt::Display for Der {
     /// Writes, for example, `length refused at 7`.
     fn fmt<W: fmt::Write>(&self, f: &mut fmt::Formatter<W>) -> fmt::Result {
@@ -72,10 +81,7 @@ mod tests {
 
     #[test]
     fn words_of_a_refusal(rt: HostRuntime) -> Result<(), Fail> {
-        let refusal = Der {
-            place: 7,
-            why: Why::Length,
-        };
+        let refusal = Der::new(7, Why::Length);
         let text = format!(in rt.alloc(); "{refusal}")?;
         assert_eq!(rt; text.as_str(), "length refused at 7");
         Ok(())

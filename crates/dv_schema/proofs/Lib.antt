@@ -1,0 +1,17 @@
+pub mod Tools
+pub mod Octets
+pub mod Items
+pub mod Numbers
+pub mod Takes
+pub mod Moves
+pub mod Begins
+pub mod Again
+pub mod Decoding
+pub mod Orders
+pub mod Spellings
+pub mod Counts
+pub mod Nodes
+pub mod Defaults
+pub mod Distinct
+pub mod Refusals
+pub mod Kept
