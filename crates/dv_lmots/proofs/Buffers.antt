@@ -1,4 +1,4 @@
--- A fixed buffer that is filled part by part.
+-- A fixed buffer that is filled part by part, here and in the crates above.
 use Rattle.std.proofs.Common.{◌≡◌, ℕ, ◌+◌, ◌-◌, ◌≤◌, List, [], ◌++◌, length, take, drop, sym, ap, ◌∙◌, arith, length-append, length-drop}
 use Rattle.std.proofs.lemmas.List.{append-nil, append_assoc, drop_all, drop_at, length-take-le, take_at}
 use Rattle.std.proofs.lemmas.Slice.{take-put_mid}

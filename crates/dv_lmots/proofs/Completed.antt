@@ -2,7 +2,7 @@
 use Rattle.std.proofs.Common.{◌≡◌, ℕ, ◌-◌, ◌<◌, List, [], ◌∷◌, ◌++◌, length, slice_index, refl, ap, ◌∙◌, arith, length-append}
 use Rattle.sha2.specs.Sha256.{sha256}
 use Rattle.sha2.proofs.Facts256.{length-sha256}
-use Rattle.dv_lmots.specs.Lmots.{HasOtsForm, candidate_of, chain, chain_end, chain_prefix, completed_value, digits, joined, key_from, key_of, leaf_prefix, ots_of, private_value, randomizer, randomizer_in, signed_value, value_in}
+use Rattle.dv_lmots.specs.Lmots.{HasOtsForm, candidate_of, chain, chain_end, chain_prefix, completed_value, digits, joined, key_from, key_of, id_and_number, ots_of, private_value, randomizer, randomizer_in, signed_value, value_in}
 use Rattle.dv_lmots.proofs.Chains.{chain_completed, length-chain_steps}
 use Rattle.dv_lmots.proofs.Joined.{joined_same, length-joined, slice_range-joined, slice_range-middle}
 use Rattle.dv_lmots.proofs.Octets.{digit_le}
@@ -37,7 +37,7 @@ HasOtsForm-ots_of id seed q m = (length-ots_of id seed q m, refl)
 -- the same ends make the same key
 pub key_from_same : (id : List ℕ) (q : ℕ) (y z : ℕ → List ℕ) → ((i : ℕ) → i < 34 → y i ≡ z i) → key_from id q y ≡ key_from id q z
 unfolding key_from
-key_from_same id q y z same = ap (λ (ends : List ℕ). sha256 (leaf_prefix id q ++ 0x80 ∷ 0x80 ∷ [] ++ ends)) (joined_same y z 34 same)
+key_from_same id q y z same = ap (λ (ends : List ℕ). sha256 (id_and_number id q ++ 0x80 ∷ 0x80 ∷ [] ++ ends)) (joined_same y z 34 same)
 
 -- the public key that a leaf's signature gives is the leaf's
 pub candidate_of-ots_of : (id seed : List ℕ) (q : ℕ) (m : List ℕ) → candidate_of id q m (ots_of id seed q m) ≡ key_of id seed q

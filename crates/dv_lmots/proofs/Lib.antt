@@ -1,4 +1,4 @@
-mod Buffers
+pub mod Buffers
 mod Chains
 mod Completed
 pub mod Joined

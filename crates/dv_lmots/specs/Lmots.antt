@@ -9,13 +9,13 @@ unfoldable pub joined : (ℕ → List ℕ) → ℕ → List ℕ
 joined f zero = []
 joined f (suc n) = joined f n ++ f n
 
--- I || u32str(q): how each message begins that is hashed for the leaf q
-abbrev pub leaf_prefix : List ℕ → ℕ → List ℕ
-leaf_prefix id q = id ++ to_be_bytes w32 q
+-- I || u32str(q): how each message begins that is hashed for the leaf, or the node, of this number
+abbrev pub id_and_number : List ℕ → ℕ → List ℕ
+id_and_number id q = id ++ to_be_bytes w32 q
 
 -- I || u32str(q) || u16str(i): how each message of the chain at place i begins
 abbrev pub chain_prefix : List ℕ → ℕ → ℕ → List ℕ
-chain_prefix id q i = leaf_prefix id q ++ to_be_bytes w16 i
+chain_prefix id q i = id_and_number id q ++ to_be_bytes w16 i
 
 -- the step at j of the chain whose messages begin with the prefix: H(prefix || u8str(j) || x)
 unfoldable pub chain_step : List ℕ → ℕ → List ℕ → List ℕ
@@ -45,7 +45,7 @@ checksum hash = sum_by (λ digit. 255 - digit) hash
 
 -- Q = H(I || u32str(q) || D_MESG || C || message) (4.5)
 unfoldable pub message_hash : List ℕ → ℕ → List ℕ → List ℕ → List ℕ
-message_hash id q c m = sha256 (leaf_prefix id q ++ 0x81 ∷ 0x81 ∷ [] ++ c ++ m)
+message_hash id q c m = sha256 (id_and_number id q ++ 0x81 ∷ 0x81 ∷ [] ++ c ++ m)
 
 -- the 34 digits of a message: the octets of Q and the two of its checksum
 unfoldable pub digits : List ℕ → ℕ → List ℕ → List ℕ → List ℕ
@@ -54,7 +54,7 @@ digits id q c m = message_hash id q c m ++ to_be_bytes w16 (checksum (message_ha
 -- K of the ends y[0], .., y[33] of the chains:
 -- H(I || u32str(q) || D_PBLC || y[0] || .. || y[33]) (4.3)
 unfoldable pub key_from : List ℕ → ℕ → (ℕ → List ℕ) → List ℕ
-key_from id q y = sha256 (leaf_prefix id q ++ 0x80 ∷ 0x80 ∷ [] ++ joined y 34)
+key_from id q y = sha256 (id_and_number id q ++ 0x80 ∷ 0x80 ∷ [] ++ joined y 34)
 
 -- the end of the chain at place i, all 255 steps from its private value
 abbrev pub chain_end : List ℕ → List ℕ → ℕ → ℕ → List ℕ

@@ -2,7 +2,7 @@
 
 ghost use Rattle.std.specs.Prelude.{◌≡◌, ◌++◌, [], ◌∷◌};
 ghost use Rattle.sha2.specs.Hashers.{Holds256};
-ghost use Rattle.dv_lmots.specs.Lmots.{checksum, digits, leaf_prefix, message_hash, randomizer};
+ghost use Rattle.dv_lmots.specs.Lmots.{checksum, digits, id_and_number, message_hash, randomizer};
 
 use crate::CHAINS;
 use crate::chain::Chain;
@@ -28,7 +28,7 @@ pub(crate) fn randomizer(id: &[u8; 16], seed: &[u8; 32], q: u32) -> [u8; 32]
 
 // A hasher of what the messages of the leaf `q` begin with, and then the mark.
 fn leaf_hasher(id: &[u8; 16], q: u32, mark: &[u8; 2]) -> Sha256
-    ensures { Holds256 result (leaf_prefix id.now q ++ mark.now) }
+    ensures { Holds256 result (id_and_number id.now q ++ mark.now) }
 {
     let mut hasher = Sha256::new();
     hasher.update(id);
@@ -39,7 +39,7 @@ fn leaf_hasher(id: &[u8; 16], q: u32, mark: &[u8; 2]) -> Sha256
 
 /// A hasher of what the public key of the leaf `q` is the hash of, up to the ends of the chains.
 pub(crate) fn key_hasher(id: &[u8; 16], q: u32) -> Sha256
-    ensures { Holds256 result (leaf_prefix id.now q ++ 0x80 ∷ 0x80 ∷ []) }
+    ensures { Holds256 result (id_and_number id.now q ++ 0x80 ∷ 0x80 ∷ []) }
 {
     leaf_hasher(id, q, &D_PBLC)
 }
