@@ -1,0 +1,2 @@
+pub mod Lmots
+pub mod Walk

@@ -1,0 +1,6 @@
+mod Ancestors
+mod Heights
+mod Parts
+mod Paths
+mod Rows
+mod Signing

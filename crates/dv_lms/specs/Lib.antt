@@ -1,0 +1,5 @@
+pub mod Height
+pub mod Identity
+pub mod Tree
+pub mod Signed
+pub mod Verifies
