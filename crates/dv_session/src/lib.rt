@@ -1,0 +1,6 @@
+//! A run of the server.
+#![tactic(auto)]
+
+mod front;
+
+pub use front::{Front, header};
