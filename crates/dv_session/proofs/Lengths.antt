@@ -8,17 +8,28 @@ use Rattle.std.proofs.lemmas.List.{take_more, get_or-take, get_or_past, length-t
 use Rattle.std.proofs.Math.Seq.{take-length}
 use Rattle.std.proofs.lemmas.Grind.{pow_more}
 
--- octets are below 256
+-- each member is below 256
 abbrev pub IsBytes : List ℕ → Type 0
 IsBytes bytes = (i : ℕ) → get_or bytes i 0 < 256
 
-pub IsBytes-rest : (b : ℕ) (bs : List ℕ) → IsBytes (b ∷ bs) → IsBytes bs
-IsBytes-rest b bs bytes = λ i. bytes (suc i)
+-- no octets
+pub IsBytes-nil : IsBytes []
+IsBytes-nil i = omega arith
 
-pub all_below : (ds : List ℕ) → IsBytes ds → AllBelowBase 256 ds
-all_below [] h = tt
-all_below (d ∷ ds) h = (h 0, all_below ds (IsBytes-rest d ds h))
+-- one octet more at the front
+pub IsBytes-cons : (b : ℕ) (bs : List ℕ) → b < 256 → IsBytes bs → IsBytes (b ∷ bs)
+IsBytes-cons b bs lt bytes zero = lt
+IsBytes-cons b bs lt bytes (suc i) = bytes i
 
+-- the first ones of octets
+pub IsBytes-take : (n : ℕ) (bytes : List ℕ) → IsBytes bytes → IsBytes (take n bytes)
+IsBytes-take n bytes h i =
+    elim (cases_lt i n) [
+      | inl lt ↦ rw (get_or-take n bytes i 0 lt) (h i)
+      | inr le ↦ rw (get_or_past (take n bytes) i 0 (omega (arith, length-take n bytes))) (omega arith)
+    ]
+
+-- a number is above 0 where its first digit is
 number_pos : (ds : List ℕ) → 0 < get_or ds 0 0 → 0 < number_from_digits 256 ds
 number_pos [] h = absurd (omega arith)
 number_pos (d ∷ ds) h =
@@ -31,6 +42,7 @@ digits_last : (m d : ℕ) → d < 256 → 0 < m * 256 + d → digits_of 256 (m *
 digits_last m d lt pos =
     digits_of_step 256 (m * 256 + d) (omega arith) pos ∙ rw (div-mul-add m 256 d lt, mod-mul-add m 256 d lt) refl
 
+-- the first k digits of a list that doesn't begin with 0 are the least ones of their number
 front_back : (k : ℕ) (ds : List ℕ) → k ≤ length ds → IsBytes ds → (0 < k → 0 < get_or ds 0 0) → digits_of 256 (number_from_digits 256 (take k ds)) ≡ take k ds
 front_back zero ds le bytes first = refl
 front_back (suc k) ds le bytes first =
@@ -47,6 +59,7 @@ front_back (suc k) ds le bytes first =
     let e : k + 1 ≡ suc k = omega arith in
     subst (λ (n : ℕ). digits_of 256 (number_from_digits 256 (take n ds)) ≡ take n ds) e whole
 
+-- digits that don't begin with 0 are the least ones of their number
 pub digits_back : (ds : List ℕ) → IsBytes ds → 0 < get_or ds 0 0 → digits_of 256 (number_from_digits 256 ds) ≡ ds
 digits_back ds bytes first =
     let p = front_back (length ds) ds (omega arith) bytes (λ h. first) in
@@ -55,10 +68,3 @@ digits_back ds bytes first =
 -- one more digit in base 256
 pub grows : (i n d : ℕ) → n < 256 ^ i → d < 256 → n * 256 + d < 256 ^ (i + 1)
 grows i n d small digit = let more : 256 ^ (i + 1) ≡ 256 ^ i * 256 = pow_more 256 i in omega (arith, more)
-
-pub IsBytes-take : (n : ℕ) (bytes : List ℕ) → IsBytes bytes → IsBytes (take n bytes)
-IsBytes-take n bytes h i =
-    elim (cases_lt i n) [
-      | inl lt ↦ rw (get_or-take n bytes i 0 lt) (h i)
-      | inr le ↦ rw (get_or_past (take n bytes) i 0 (omega (arith, length-take n bytes))) (omega arith)
-    ]

@@ -1,27 +1,35 @@
 //! How long a request is, by its front.
-ghost use Rattle.std.specs.Prelude.{◌≡◌, ◌+◌, ◌^◌, ◌<◌, ◌≤◌, ◌∷◌, ◌↔◌, IsTrue, length};
+
+ghost use Rattle.std.specs.Prelude.{◌≡◌, ◌+◌, ◌^◌, ◌<◌, ◌≤◌, ◌∷◌, ◌++◌, ◌↔◌, ℕ, List, IsTrue, length};
 ghost use Rattle.std.specs.Int.Digits.{number_from_digits};
+ghost use Rattle.dv_session.specs.declared.front.Front.{Front};
 ghost use Rattle.dv_session.specs.Headers.{Tells, MayBegin};
 
 /// The most octets of a request.
 pub const REQUEST_LIMIT: u64 = 262_144;
 
-/// The first octet of a SEQUENCE.
+/// The identifier octet of a SEQUENCE (X.690 8.9.1, 8.1.2).
 const SEQUENCE: u8 = 0x30;
 
-/// What the front of a value says of it.
+/// The most octets of a request's header: the tag, and a length in three octets behind the one that counts them.
+const HEADER_LIMIT: usize = 5;
+
+/// What the first octets of a value say of it.
 #[derive(Clone, Copy, Debug, PartialEq, Eq)]
 pub enum Front {
-    /// These octets are less than a header.
+    /// The octets are less than a header, and go on to one.
     Need,
-    /// The value has this many octets, those of its header among them.
+    /// The octets begin with the header of a value of this many octets, those of the header among them.
     Whole(u64),
     /// The octets begin no request, however they go on.
     Bad,
 }
 
-/// What the front of a value says of it: whether the octets begin with the header of a request (a SEQUENCE in the least
-/// definite form, of at most [`REQUEST_LIMIT`] octets in all), are less than such a header, or begin none.
+/// What octets say of the request that they begin: `Whole` where its header is there, `Need` where they are less than a
+/// header, and `Bad` as soon as no header begins so.
+///
+/// A request's header is the octet `30` and the fewest octets of a definite length (X.690 8.1.3, 10.1) with which the
+/// value has at most [`REQUEST_LIMIT`] octets.
 pub fn header(front: &[u8]) -> Front
     ensures { Tells front.now result }
 {
@@ -35,6 +43,24 @@ pub fn header(front: &[u8]) -> Front
             _ => Front::Bad,
         },
     }
+}
+
+/// Octets have one answer of [`header`].
+pub fn one_answer()
+    ensures { (front : List ℕ) (said other : Front) → Tells front said → Tells front other → said ≡ other }
+{
+}
+
+// What is said by octets that have come in two parts, one behind the other.
+pub(crate) fn joined_header(first: &[u8], second: &[u8]) -> Front
+    ensures { Tells (first.now ++ second.now) result }
+{
+    let mut front = [0; HEADER_LIMIT];
+    let held = first.len().min(HEADER_LIMIT);
+    let more = second.len().min(HEADER_LIMIT - held);
+    front[..held].copy_from_slice(&first[..held]);
+    front[held..held + more].copy_from_slice(&second[..more]);
+    header(&front[..held + more])
 }
 
 // What a header says whose length stands in `count` octets, of which these are the first ones.
@@ -85,3 +111,6 @@ fn number(digits: &[u8]) -> u64
     }
     number
 }
+
+#[cfg(test)]
+mod tests;
