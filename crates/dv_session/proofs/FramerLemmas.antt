@@ -1,5 +1,5 @@
 -- What a framer makes of a piece.
-use Rattle.std.proofs.Common.{◌≡◌, ◌⊎◌, ⊎_elim, ◌∙◌, ℕ, ◌+◌, ◌-◌, Bool, false, IsTrue, Option, Vec, List, [], ◌∷◌, ◌++◌, if◌then◌else◌, length, take, drop, refl, sym, ap, subst, append_assoc, length-append, arith}
+use Rattle.std.proofs.Common.{◌≡◌, ◌⊎◌, ⊎_elim, ◌∙◌, ℕ, ◌+◌, ◌-◌, false, IsTrue, Option, Vec, List, [], ◌∷◌, ◌++◌, if◌then◌else◌, length, take, drop, refl, sym, ap, subst, append_assoc, length-append, arith}
 use Rattle.std.specs.List.{concat, AllByRecursion}
 use Rattle.std.specs.declared.alloc.Global.{Global}
 use Rattle.std.proofs.lemmas.Bool.{both_ways}
@@ -10,7 +10,7 @@ use Rattle.dv_session.specs.declared.front.Front.TheVariants.{Bad}
 use Rattle.dv_session.specs.declared.framer.Framer.TheInside.{Inside}
 use Rattle.dv_session.specs.declared.framer.Split.{Split}
 use Rattle.dv_session.specs.Headers.{Tells}
-use Rattle.dv_session.specs.Requests.{IsRequest, Requests, HasNoHeader}
+use Rattle.dv_session.specs.Requests.{IsRequest, HasNoHeader}
 use Rattle.dv_session.specs.Progress.{Progress, stop_of}
 use Rattle.dv_session.specs.Feeding.{octets_of, Feeds}
 use Rattle.dv_session.specs.Splitting.{IsBegun, progress_of, IsKept, left_behind, rest_of, IsSplit, Splits, Ends}
@@ -40,8 +40,8 @@ cut_push octets start begun ahead request behind requests cut is parts =
     concat-append requests (request ∷ []) ∙ ap (λ (l : List ℕ). concat requests ++ l) (append-nil request) in
     record {
       whole =
-        cut.whole ∙ ap (λ (l : List ℕ). concat requests ++ l) parts ∙ sym (append_assoc (concat requests) request behind)
-        ∙ ap (λ (l : List ℕ). l ++ behind) (sym one);
+          cut.whole ∙ ap (λ (l : List ℕ). concat requests ++ l) parts ∙ sym (append_assoc (concat requests) request behind)
+          ∙ ap (λ (l : List ℕ). l ++ behind) (sym one);
       each = each_more requests (request ∷ []) cut.each (is, tt);
       goes_on = nothing_begun;
       left = none_left requests;
@@ -78,6 +78,7 @@ cut_splits start piece begun split said cut behind is_bad bad_is tells none =
   where
     octets : List ℕ
     octets = begun ++ split.ahead.now
+
     stopped : HasNoHeader octets → IsTrue split.stops
     stopped never = bad_is (same_answer octets said Bad tells never)
 
@@ -96,8 +97,14 @@ framer_after framer piece split rest = record {
 pub octets_after : (framer : Inside) (piece : List ℕ) (split : Split) → IsKept framer → framer.stopped ≡ false → Splits framer.rest.items piece split
     → framer.before + framer.behind + length piece ≡ framer.before + length (concat (octets_of split.requests.items)) + split.behind
 octets_after framer piece split kept going splits =
-    omega (arith, (kept.reads going).1, splits.behind, ap length splits.requests.whole, length-append framer.rest.items piece,
-      length-append (concat (octets_of split.requests.items)) (rest_of framer.rest.items split))
+    omega (
+      arith,
+      (kept.reads going).1,
+      splits.behind,
+      ap length splits.requests.whole,
+      length-append framer.rest.items piece,
+      length-append (concat (octets_of split.requests.items)) (rest_of framer.rest.items split),
+    )
 
 -- so the counts grow by the octets of the piece
 pub after_counted : (framer : Inside) (old : Progress) (piece : List ℕ) (split : Split) → progress_of framer ≡ old → IsKept framer → framer.stopped ≡ false
@@ -112,8 +119,8 @@ pub after_kept : (framer : Inside) (piece : List ℕ) (split : Split) (rest : Ve
     → rest.items ≡ (if split.stops then [] else rest_of framer.rest.items split) → IsKept (framer_after framer piece split rest)
 after_kept framer piece split rest splits kept = record {
   reads = λ going.
-    let all : rest.items ≡ rest_of framer.rest.items split = kept ∙ rw going refl in
-    (subst IsBegun (sym all) (splits.goes_on going), splits.behind ∙ ap length (sym all));
+      let all : rest.items ≡ rest_of framer.rest.items split = kept ∙ rw going refl in
+      (subst IsBegun (sym all) (splits.goes_on going), splits.behind ∙ ap length (sym all));
   stopped = λ stops. kept ∙ rw stops refl;
 }
 
@@ -127,12 +134,16 @@ after_feeds framer old piece split rest stop seen kept going splits is stops =
     let new = progress_of (framer_after framer piece split rest) in
     subst (λ (p : Progress). Feeds p piece (record { requests = split.requests; stop = stop }) new) seen (record {
       stopped = λ stopped. absurd (both_ways framer.stopped going stopped);
-      reads = λ going'. (rest_of framer.rest.items split, splits.requests, record {
-        before = omega (arith, octets_after framer piece split kept going splits);
-        behind = splits.behind;
-        kept = is;
-        stopped = splits.stops;
-      });
+      reads = λ going'. (
+        rest_of framer.rest.items split,
+        splits.requests,
+        record {
+          before = omega (arith, octets_after framer piece split kept going splits);
+          behind = splits.behind;
+          kept = is;
+          stopped = splits.stops;
+        },
+      );
       stop = stops;
     })
 

@@ -1,5 +1,5 @@
 -- Octets begin with one header at most, and what their first octets say of them stays true however they go on.
-use Rattle.std.proofs.Common.{◌≡◌, ◌≢◌, ◌⊎◌, inl, inr, ◌∙◌, ℕ, ◌+◌, ◌-◌, ◌<◌, ◌≤◌, min, List, [], ◌∷◌, ◌++◌, length, get_or, take, drop, refl, sym, ap, subst, append_assoc, length-append, arith}
+use Rattle.std.proofs.Common.{◌≡◌, ◌≢◌, inl, inr, ◌∙◌, ℕ, ◌+◌, ◌-◌, ◌<◌, ◌≤◌, min, List, [], ◌∷◌, ◌++◌, length, get_or, take, drop, refl, sym, ap, subst, append_assoc, length-append, arith}
 use Rattle.std.specs.Int.Digits.{digits_of, number_from_digits}
 use Rattle.std.proofs.lemmas.Int.Digits.{number_digits_of}
 use Rattle.std.proofs.lemmas.Bool.{cases_lt}
@@ -32,17 +32,19 @@ same_length n m x y same =
       | inr n_long ↦ elim (cases_lt m 128) [
         | inl m_short ↦ absurd (omega (arith, first (long n) (m ∷ []) (length_octets-long n n_long) (length_octets-short m m_short)))
         | inr m_long ↦
-          let count = first (long n) (long m) (length_octets-long n n_long) (length_octets-long m m_long) in
-          let behind = ap (drop 1) (all (long n) (long m) (length_octets-long n n_long) (length_octets-long m m_long)) in
-          let digits = same_digits (digits_of 256 n) (digits_of 256 m) x y (omega (arith, count)) behind in
-          sym (number_digits_of 256 n (omega arith)) ∙ ap (number_from_digits 256) digits ∙ number_digits_of 256 m (omega arith)
+            let count = first (long n) (long m) (length_octets-long n n_long) (length_octets-long m m_long) in
+            let behind = ap (drop 1) (all (long n) (long m) (length_octets-long n n_long) (length_octets-long m m_long)) in
+            let digits = same_digits (digits_of 256 n) (digits_of 256 m) x y (omega (arith, count)) behind in
+            sym (number_digits_of 256 n (omega arith)) ∙ ap (number_from_digits 256) digits ∙ number_digits_of 256 m (omega arith)
       ]
     ]
   where
     long : ℕ → List ℕ
     long n = (128 + length (digits_of 256 n)) ∷ digits_of 256 n
+
     all : (a b : List ℕ) → length_octets n ≡ a → length_octets m ≡ b → a ++ x ≡ b ++ y
     all a b is also = ap (λ (l : List ℕ). l ++ x) (sym is) ∙ same ∙ ap (λ (l : List ℕ). l ++ y) also
+
     first : (a b : List ℕ) → length_octets n ≡ a → length_octets m ≡ b → get_or (a ++ x) 0 0 ≡ get_or (b ++ y) 0 0
     first a b is also = ap (λ (l : List ℕ). get_or l 0 0) (all a b is also)
 
@@ -161,15 +163,15 @@ five_joined first second zeros held more k is also size =
     parts : take held first ++ take more second ≡ take 5 (first ++ second)
     parts = elim (cases_lt (length first) 5) [
       | inl few ↦
-        let all : take held first ≡ first = take_all held first (omega (arith, is)) in
-        let least : more ≡ min (5 - held) (length second) = omega (arith, also) in
-        let five : length first + (5 - held) ≡ 5 = omega (arith, is) in
-        ap (λ (l : List ℕ). l ++ take more second) all
-        ∙ ap (λ (l : List ℕ). first ++ l) (ap (λ (n : ℕ). take n second) least ∙ take_min (5 - held) second)
-        ∙ sym (take-append-add first second (5 - held)) ∙ ap (λ (n : ℕ). take n (first ++ second)) five
+          let all : take held first ≡ first = take_all held first (omega (arith, is)) in
+          let least : more ≡ min (5 - held) (length second) = omega (arith, also) in
+          let five : length first + (5 - held) ≡ 5 = omega (arith, is) in
+          ap (λ (l : List ℕ). l ++ take more second) all
+          ∙ ap (λ (l : List ℕ). first ++ l) (ap (λ (n : ℕ). take n second) least ∙ take_min (5 - held) second)
+          ∙ sym (take-append-add first second (5 - held)) ∙ ap (λ (n : ℕ). take n (first ++ second)) five
       | inr many ↦
-        let five : held ≡ 5 = omega (arith, is) in
-        let none : more ≡ 0 = omega (arith, also, is) in
-        ap (λ (n : ℕ). take held first ++ take n second) none ∙ append-nil (take held first) ∙ ap (λ (n : ℕ). take n first) five
-        ∙ sym (take-append-le 5 first second many)
+          let five : held ≡ 5 = omega (arith, is) in
+          let none : more ≡ 0 = omega (arith, also, is) in
+          ap (λ (n : ℕ). take held first ++ take n second) none ∙ append-nil (take held first) ∙ ap (λ (n : ℕ). take n first) five
+          ∙ sym (take-append-le 5 first second many)
     ]

@@ -1,5 +1,5 @@
 -- Which octets begin the header of a request.
-use Rattle.std.proofs.Common.{◌≡◌, ◌≢◌, ◌⊎◌, ⊎_elim, inl, inr, ◌∙◌, ℕ, zero, suc, ◌+◌, ◌-◌, ◌*◌, ◌^◌, ◌<◌, ◌≤◌, Bool, true, false, cond, ltb, List, [], ◌∷◌, ◌++◌, length, get_or, take, drop, refl, sym, ap, subst, arith}
+use Rattle.std.proofs.Common.{◌≡◌, ◌≢◌, ◌⊎◌, ⊎_elim, inl, inr, ◌∙◌, ℕ, zero, suc, ◌+◌, ◌-◌, ◌<◌, ◌≤◌, Bool, true, false, cond, ltb, List, [], ◌∷◌, ◌++◌, length, get_or, take, drop, refl, sym, ap, subst, arith}
 use Rattle.std.specs.Int.Digits.{digits_of, number_from_digits}
 use Rattle.std.proofs.lemmas.Int.Digits.{number_digits_of, first_digits_of, length-digits_of-le}
 use Rattle.std.proofs.lemmas.Bool.{ltb-false, ltb-true, lt-ltb, le-ltb}
@@ -58,9 +58,12 @@ need_some count ds more bytes any same some few begins most =
     let all = ds ++ more in
     let begins' : MayBegin (length all) (get_or all 0 0) = subst (λ (k : ℕ). MayBegin k (get_or all 0 0)) (sym same) begins in
     let least = number_least all (omega arith) (omega arith) begins' in
-    let is = header_long all bytes begins.some least (omega arith) in
-    (more, 2 + length all + number_from_digits 256 all, any,
-      subst (λ (k : ℕ). IsHeader (48 ∷ (128 + k) ∷ all) (2 + length all + number_from_digits 256 all)) same is)
+    let is = header_long all bytes begins.some least (omega arith) in (
+      more,
+      2 + length all + number_from_digits 256 all,
+      any,
+      subst (λ (k : ℕ). IsHeader (48 ∷ (128 + k) ∷ all) (2 + length all + number_from_digits 256 all)) same is,
+    )
 
 -- two and three octets
 two : (a b : ℕ) → a < 256 → b < 256 → IsBytes (a ∷ b ∷ [])
@@ -87,7 +90,7 @@ need_digits count (a ∷ b ∷ []) some few bytes lt any begins =
     let is : count ≡ 3 = omega arith in
     subst (λ (k : ℕ). NeedsMore (48 ∷ (128 + k) ∷ a ∷ b ∷ [])) (sym is)
     (need_some 3 (a ∷ b ∷ []) (0 ∷ []) (three a b 0 (bytes 0) (bytes 1) (omega arith)) (λ e. cc) refl (omega arith) (omega arith)
-      (subst (λ (k : ℕ). MayBegin k a) is begins) (omega (arith, begins.most is, bytes 1)))
+    (subst (λ (k : ℕ). MayBegin k a) is begins) (omega (arith, begins.most is, bytes 1)))
 need_digits count (a ∷ b ∷ c ∷ ds) some few bytes lt any begins = absurd (omega arith)
 
 -- no octet of a length: its first one goes on so, and zeros
@@ -196,6 +199,7 @@ bad_begin count first rest some never octets more behind total is same = ⊎_eli
     first_of : (ds behind all : List ℕ) → all ≡ ds ++ behind → 0 < length ds → get_or all 0 0 ≡ get_or ds 0 0
     first_of [] behind all e lt = absurd (omega arith)
     first_of (d ∷ ds) behind all e lt = ap (λ (l : List ℕ). get_or l 0 0) e
+
     header_size : (n : ℕ) (octets : List ℕ) (total : ℕ) → octets ≡ header_of n → total ≡ length octets + n → total ≤ request_limit → 128 ≤ n
         → n + 2 + length (digits_of 256 n) ≤ request_limit
     header_size n octets total is size most least =

@@ -1,6 +1,6 @@
 -- The least octets of a number are the octets that it was read from.
 use Rattle.std.proofs.Common.{◌≡◌, ℕ, zero, suc, ◌+◌, ◌*◌, ◌^◌, ◌<◌, ◌≤◌, List, [], ◌∷◌, ◌++◌, inl, inr, take, length, get_or, refl, sym, ap, subst, ◌∙◌, arith}
-use Rattle.std.specs.Int.Digits.{digits_of, number_from_digits, number_from_digits_after, AllBelowBase}
+use Rattle.std.specs.Int.Digits.{digits_of, number_from_digits, number_from_digits_after}
 use Rattle.std.proofs.lemmas.Int.Digits.{digits_of_step, number_after_ge, number_more}
 use Rattle.std.proofs.lemmas.Nat.{div-mul-add, mod-mul-add}
 use Rattle.std.proofs.lemmas.Bool.{cases_lt}

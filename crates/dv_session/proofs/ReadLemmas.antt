@@ -13,9 +13,10 @@ use Rattle.dv_session.proofs.RequestLemmas.{nothing_begun, begun_open, begun_hea
 -- nothing of a stream
 pub reads_none : Reads start [] []
 reads_none = (
-    [],
-    record { whole = refl; each = tt; open_end = λ front behind cut is. begun_open [] front behind nothing_begun cut is },
-    record { before = refl; behind = refl; kept = refl; stopped = ((λ t. absurd (cc t)), (λ never. absurd (begun_header [] nothing_begun never))) })
+  [],
+  record { whole = refl; each = tt; open_end = λ front behind cut is. begun_open [] front behind nothing_begun cut is },
+  record { before = refl; behind = refl; kept = refl; stopped = ((λ t. absurd (cc t)), (λ never. absurd (begun_header [] nothing_begun never))) },
+)
 
 -- a piece that comes after the stop
 more_stopped : (old : Progress) (stream piece : List ℕ) (requests : List (List ℕ)) → IsTrue old.stopped → Reads old stream requests
@@ -24,13 +25,16 @@ more_stopped old stream piece requests stopped reads =
     let rest = reads.0 in
     let at = reads.2 in
     let never : HasNoHeader rest = at.stopped.0 stopped in
-    let dropped : old.rest ≡ [] = at.kept ∙ rw stopped refl in
-    (rest ++ piece, split_stopped stream piece rest requests reads.1 never, record {
-      before = at.before;
-      behind = omega (arith, at.behind, length-append rest piece);
-      kept = dropped ∙ rw stopped refl;
-      stopped = ((λ t. no_header_more rest piece never), (λ n. stopped));
-    })
+    let dropped : old.rest ≡ [] = at.kept ∙ rw stopped refl in (
+      rest ++ piece,
+      split_stopped stream piece rest requests reads.1 never,
+      record {
+        before = at.before;
+        behind = omega (arith, at.behind, length-append rest piece);
+        kept = dropped ∙ rw stopped refl;
+        stopped = ((λ t. no_header_more rest piece never), (λ n. stopped));
+      },
+    )
 
 -- a piece that comes before
 more_read : (old new : Progress) (stream piece : List ℕ) (requests more : List (List ℕ)) (last : List ℕ) → old.stopped ≡ false → Reads old stream requests

@@ -9,7 +9,7 @@ use Rattle.dv_schema.specs.Tlv.{tlv}
 use Rattle.dv_session.specs.Requests.{IsRequest, Requests, header_of, HasHeader, HasNoHeader}
 use Rattle.dv_session.specs.Splitting.{IsBegun, Ends}
 use Rattle.dv_session.proofs.HeaderLemmas.{need_nothing}
-use Rattle.dv_session.proofs.FrontLemmas.{same_total, header_more, no_header_more, needs_some_header, has_some_header, needs_less, few_octets}
+use Rattle.dv_session.proofs.FrontLemmas.{same_total, header_more, no_header_more, needs_some_header, has_some_header, needs_less}
 
 -- ---- a request and its header
 
@@ -136,9 +136,9 @@ pub split_more : (stream piece rest last : List ℕ) (requests more : List (List
     → Requests (stream ++ piece) (requests ++ more) last
 split_more stream piece rest last requests more first then = record {
   whole =
-    ap (λ (l : List ℕ). l ++ piece) first.whole ∙ append_assoc (concat requests) rest piece
-    ∙ ap (λ (l : List ℕ). concat requests ++ l) then.whole ∙ sym (append_assoc (concat requests) (concat more) last)
-    ∙ ap (λ (l : List ℕ). l ++ last) (sym (concat-append requests more));
+      ap (λ (l : List ℕ). l ++ piece) first.whole ∙ append_assoc (concat requests) rest piece
+      ∙ ap (λ (l : List ℕ). concat requests ++ l) then.whole ∙ sym (append_assoc (concat requests) (concat more) last)
+      ∙ ap (λ (l : List ℕ). l ++ last) (sym (concat-append requests more));
   each = each_more requests more first.each then.each;
   open_end = then.open_end;
 }

@@ -19,5 +19,5 @@ requests_of fed = octets_of fed.requests.items
 pub record Feeds (old : Progress) (piece : List ℕ) (fed : Fed) (new : Progress) : Type 0 where
   pub stopped : IsTrue old.stopped → (requests_of fed ≡ []) × (new ≡ record old { behind = old.behind + length piece })
   pub reads : old.stopped ≡ false → (rest : List ℕ) × Requests (old.rest ++ piece) (requests_of fed) rest
-    × IsAt new (old.before + length (concat (requests_of fed))) rest
+      × IsAt new (old.before + length (concat (requests_of fed))) rest
   pub stop : fed.stop ≡ stop_of new

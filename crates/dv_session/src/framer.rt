@@ -118,8 +118,7 @@ impl Framer {
 pub fn one_split()
     ensures { (stream : List ℕ) (first second : List (List ℕ)) (rest other : List ℕ)
         → Requests stream first rest → Requests stream second other → (first ≡ second) × (rest ≡ other) }
-{
-}
+{}
 
 /// However a stream is cut, its pieces fed one after another give the requests of the whole stream: nothing read is the
 /// empty stream, and a piece more is the stream with the piece at its end. Every octet of the stream is counted.
@@ -130,8 +129,7 @@ pub fn any_pieces()
         → Reads new (stream ++ piece) (requests ++ requests_of fed) }
     ensures octets { (progress : Progress) (stream : List ℕ) (requests : List (List ℕ))
         → Reads progress stream requests → progress.before + progress.behind ≡ length stream }
-{
-}
+{}
 
 // The requests that end in a piece of a stream, and what comes after them.
 #[derive(Drop)]

@@ -48,8 +48,7 @@ pub fn header(front: &[u8]) -> Front
 /// Octets have one answer of [`header`].
 pub fn one_answer()
     ensures { (front : List ℕ) (said other : Front) → Tells front said → Tells front other → said ≡ other }
-{
-}
+{}
 
 // What is said by octets that have come in two parts, one behind the other.
 pub(crate) fn joined_header(first: &[u8], second: &[u8]) -> Front

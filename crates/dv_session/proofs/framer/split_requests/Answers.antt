@@ -15,8 +15,13 @@ loop-end-preserved c =
 pub overflow_add-result : goal.overflow_add-result
 overflow_add-result c =
     let cut = octets_of c.loop-end.requests.items in
-    omega (arith, ap length c.loop-end.invariant.whole, length-append c.args.begun.now c.args.piece.now,
-      length-append (concat cut) (c.loop-end.begun.now ++ c.loop-end.ahead.now), length-append c.loop-end.begun.now c.loop-end.ahead.now)
+    omega (
+      arith,
+      ap length c.loop-end.invariant.whole,
+      length-append c.args.begun.now c.args.piece.now,
+      length-append (concat cut) (c.loop-end.begun.now ++ c.loop-end.ahead.now),
+      length-append c.loop-end.begun.now c.loop-end.ahead.now,
+    )
 
 pub returns : goal.returns
 returns c =

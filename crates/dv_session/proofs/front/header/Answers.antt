@@ -1,5 +1,5 @@
-use Rattle.std.proofs.Common.{ℕ, ◌≤◌, ◌<◌, get_or, inl, inr, arith}
-use Rattle.dv_session.proofs.HeaderLemmas.{one_octet, short_front, other_tag, bad_second, long_front, no_octets}
+use Rattle.std.proofs.Common.{inl, inr, arith}
+use Rattle.dv_session.proofs.HeaderLemmas.{one_octet, short_front, bad_second, long_front, no_octets}
 use Rattle.dv_session.proofs.front.header.Goals as goal
 
 pub returns-in-len1 : goal.returns-in-len1

@@ -1,6 +1,5 @@
-use Rattle.std.proofs.Common.{ℕ, ◌≡◌, ◌≢◌, ◌<◌, ◌+◌, length, get_or, true, arith, refl, sym, ap, ◌∙◌}
-use Rattle.std.specs.Prelude.{nat_eq}
-use Rattle.std.proofs.Common.{List, Bool, false, eqb}
+use Rattle.std.proofs.Common.{ℕ, ◌≡◌, ◌<◌, ◌+◌, length, arith, sym, ap}
+use Rattle.std.proofs.Common.{List, false, eqb}
 use borrow.Author.Tests.{eqb-true, eqb-false}
 use Rattle.dv_session.proofs.HeaderLemmas.{need_empty, need_digits, whole_long, bad_digit, bad_total}
 use Rattle.dv_session.proofs.front.long_header.Goals as goal

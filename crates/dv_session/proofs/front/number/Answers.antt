@@ -1,6 +1,5 @@
 use Rattle.std.proofs.Common.{arith, ◌<◌, ◌≤◌, ◌*◌, ◌+◌, ◌^◌, get_or, length, ap, ◌∙◌, sym}
 use Rattle.std.proofs.lemmas.Int.Digits.{number_more}
-use Rattle.std.proofs.lemmas.List.{take_all}
 use Rattle.std.proofs.Math.Nat.{pow-le-pow_right}
 use Rattle.dv_session.proofs.Lengths.{grows}
 use Rattle.dv_session.proofs.front.number.Goals as goal
