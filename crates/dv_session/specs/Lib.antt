@@ -1,0 +1,5 @@
+pub mod Requests
+pub mod Headers
+pub mod Progress
+pub mod Feeding
+pub mod Splitting

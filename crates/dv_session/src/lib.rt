@@ -1,0 +1,20 @@
+//! What a serving run makes of its input, request by request. So far: the splitting of a stream into requests.
+//!
+//! What it is for: a server reads octets in pieces, which end anywhere. A [`Framer`] makes requests of them: SEQUENCE
+//! values of DER (X.690), one after another, each of at most [`REQUEST_LIMIT`] octets. [`header`] tells by the first
+//! octets how long a request is, before it is there.
+//!
+//! What it promises: the requests that a framer gives are those of the stream, each once, in order and whole, and no
+//! others. `Requests` in specs/Requests.antt says what the requests of a stream are, [`one_split`] that a stream has no
+//! other ones, and [`any_pieces`] that it doesn't matter how the stream is cut. Where octets begin no request the
+//! stream stops, and its place is told. A framer keeps fewer octets than a request may have, and none after a stop;
+//! want of memory leaves it as it was.
+//!
+//! What it stands on: `dv_schema`, for the octets of a length.
+#![tactic(auto)]
+
+mod framer;
+mod front;
+
+pub use framer::{Fed, Framer, any_pieces, one_split};
+pub use front::{Front, REQUEST_LIMIT, header, one_answer};
