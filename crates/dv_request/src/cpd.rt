@@ -14,7 +14,7 @@ use thiserror::Error;
 pub const REQUEST_LIMIT: usize = 262_144;
 
 /// The contents octets of id-ct-DVCSRequestData, 1.2.840.113549.1.9.16.1.7.
-const REQUEST_DATA_TYPE: [u8; 11] = [42, 134, 72, 134, 247, 13, 1, 9, 16, 1, 7];
+pub const REQUEST_DATA_TYPE: [u8; 11] = [42, 134, 72, 134, 247, 13, 1, 9, 16, 1, 7];
 
 const SEQUENCE: u8 = 0x30;
 

@@ -7,4 +7,4 @@
 
 mod cpd;
 
-pub use cpd::{Make, REQUEST_LIMIT, cpd_request};
+pub use cpd::{Make, REQUEST_DATA_TYPE, REQUEST_LIMIT, cpd_request};

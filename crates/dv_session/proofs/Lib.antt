@@ -4,3 +4,7 @@ pub mod FrontLemmas
 pub mod RequestLemmas
 pub mod ReadLemmas
 pub mod FramerLemmas
+pub mod PutsLemmas
+pub mod AnswerLemmas
+pub mod RunLemmas
+pub mod MessageLemmas

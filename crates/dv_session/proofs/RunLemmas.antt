@@ -15,7 +15,7 @@ use Rattle.dv_session.specs.Progress.{Progress, start, stop_of, Reads, IsAt}
 use Rattle.dv_session.specs.Feeding.{Feeds, requests_of, octets_of}
 use Rattle.dv_session.specs.Answers.{Answers}
 use Rattle.dv_session.specs.Serving.{Run, HasTaken, IsRun, IsAnswered, Ends, Sends, SendsAll, SendsFront, PutsAnswers, Serves}
-use Rattle.dv_session.proofs.SplitLemmas.{nothing_begun, begun_header}
+use Rattle.dv_session.proofs.RequestLemmas.{nothing_begun, begun_header}
 use Rattle.dv_session.proofs.ReadLemmas.{reads_none, reads_more}
 use Rattle.dv_session.proofs.PutsLemmas.{puts_none, puts_then}
 use Rattle.dv_session.proofs.AnswerLemmas.{answers_then}
@@ -142,26 +142,35 @@ not_stopped progress taken rest at going never = let stopped : progress.stopped 
 pub serves_input : (left left' : Option (List ℕ)) (progress : Progress) (tells ended : Bool) (a b : Content) (taken : ℕ) → Going left left' progress tells a b taken
     → taken ≤ 2 ^ 40 → progress.behind ≡ 0 → ended ≡ true → Serves Input left left' ended tells a b
 unfolding run_of
-serves_input left left' progress tells ended a b taken going bound none at_end =
-    (run_of left left' progress tells a b taken going [], is_run Input left left' left' progress tells a b taken [] going (takes_none left') (λ _. refl) (omega (arith, bound)),
-    (empty going.reads.0 (sym going.reads.2.behind ∙ none), at_end, going.each), going.sent)
+serves_input left left' progress tells ended a b taken going bound none at_end = (
+  run_of left left' progress tells a b taken going [],
+  is_run Input left left' left' progress tells a b taken [] going (takes_none left') (λ _. refl) (omega (arith, bound)),
+  (empty going.reads.0 (sym going.reads.2.behind ∙ none), at_end, going.each),
+  going.sent,
+)
 
 -- it ended in octets behind it
 pub serves_cut : (left left' : Option (List ℕ)) (progress : Progress) (tells ended : Bool) (a b : Content) (taken : ℕ) → Going left left' progress tells a b taken
     → taken ≤ 2 ^ 40 → progress.behind ≢ 0 → ended ≡ true → Serves Refused left left' ended tells a b
 unfolding run_of
-serves_cut left left' progress tells ended a b taken going bound some at_end =
-    (run_of left left' progress tells a b taken going [], is_run Refused left left' left' progress tells a b taken [] going (takes_none left') (λ _. refl) (omega (arith, bound)),
-    (filled going.reads.0 (omega (arith, some, going.reads.2.behind)), inr at_end, going.each), going.sent)
+serves_cut left left' progress tells ended a b taken going bound some at_end = (
+  run_of left left' progress tells a b taken going [],
+  is_run Refused left left' left' progress tells a b taken [] going (takes_none left') (λ _. refl) (omega (arith, bound)),
+  (filled going.reads.0 (omega (arith, some, going.reads.2.behind)), inr at_end, going.each),
+  going.sent,
+)
 
 -- these octets begin no request
 pub serves_refused : (left left' : Option (List ℕ)) (progress : Progress) (tells ended : Bool) (a b : Content) (taken : ℕ) → Going left left' progress tells a b taken
     → taken ≤ 2 ^ 40 → progress.stopped ≡ true → Serves Refused left left' ended tells a b
 unfolding run_of
 serves_refused left left' progress tells ended a b taken going bound stopped =
-    let never = going.reads.2.stopped.0 stopped in
-    (run_of left left' progress tells a b taken going [], is_run Refused left left' left' progress tells a b taken [] going (takes_none left') (λ _. refl) (omega (arith, bound)),
-    (not_empty going.reads.0 never, inl never, going.each), going.sent)
+    let never = going.reads.2.stopped.0 stopped in (
+      run_of left left' progress tells a b taken going [],
+      is_run Refused left left' left' progress tells a b taken [] going (takes_none left') (λ _. refl) (omega (arith, bound)),
+      (not_empty going.reads.0 never, inl never, going.each),
+      going.sent,
+    )
   where
     -- no octets go on to any header
     not_empty : (rest : List ℕ) → HasNoHeader rest → rest ≢ []
@@ -171,25 +180,34 @@ serves_refused left left' progress tells ended a b taken going bound stopped =
 pub serves_read : (left left' : Option (List ℕ)) (progress : Progress) (tells ended : Bool) (a b : Content) (taken : ℕ) → Going left left' progress tells a b taken
     → taken ≤ 2 ^ 40 → progress.stopped ≡ false → ended ≡ false → Serves Read left left' ended tells a b
 unfolding run_of
-serves_read left left' progress tells ended a b taken going bound on not_end =
-    (run_of left left' progress tells a b taken going [], is_run Read left left' left' progress tells a b taken [] going (takes_none left') (λ _. refl) (omega (arith, bound)),
-    (not_stopped progress _ going.reads.0 going.reads.2 on, not_end, going.each), going.sent)
+serves_read left left' progress tells ended a b taken going bound on not_end = (
+  run_of left left' progress tells a b taken going [],
+  is_run Read left left' left' progress tells a b taken [] going (takes_none left') (λ _. refl) (omega (arith, bound)),
+  (not_stopped progress _ going.reads.0 going.reads.2 on, not_end, going.each),
+  going.sent,
+)
 
 -- as much was taken as may be
 pub serves_limit : (left left' : Option (List ℕ)) (progress : Progress) (tells ended : Bool) (a b : Content) (taken : ℕ) → Going left left' progress tells a b taken
     → taken ≡ 2 ^ 40 → progress.stopped ≡ false → ended ≡ false → Serves Limit left left' ended tells a b
 unfolding run_of
-serves_limit left left' progress tells ended a b taken going all on not_end =
-    (run_of left left' progress tells a b taken going [], is_run Limit left left' left' progress tells a b taken [] going (takes_none left') (λ _. refl) (omega (arith, all)),
-    (going.size ∙ all, not_stopped progress _ going.reads.0 going.reads.2 on, not_end, going.each), going.sent)
+serves_limit left left' progress tells ended a b taken going all on not_end = (
+  run_of left left' progress tells a b taken going [],
+  is_run Limit left left' left' progress tells a b taken [] going (takes_none left') (λ _. refl) (omega (arith, all)),
+  (going.size ∙ all, not_stopped progress _ going.reads.0 going.reads.2 on, not_end, going.each),
+  going.sent,
+)
 
 -- There was no memory to read on, with all requests answered. What was taken last isn't read.
 pub serves_memory : (left left' left'' : Option (List ℕ)) (progress : Progress) (tells ended : Bool) (a b : Content) (taken : ℕ) (unread : List ℕ)
     → Going left left' progress tells a b taken → HasTaken left' left'' unread → taken + length unread ≤ 2 ^ 40 → Serves Memory left left'' ended tells a b
 unfolding run_of
-serves_memory left left' left'' progress tells ended a b taken unread going took bound =
-    (run_of left left' progress tells a b taken going unread,
-    is_run Memory left left' left'' progress tells a b taken unread going took (λ other. absurd (other refl)) bound, tt, going.sent)
+serves_memory left left' left'' progress tells ended a b taken unread going took bound = (
+  run_of left left' progress tells a b taken going unread,
+  is_run Memory left left' left'' progress tells a b taken unread going took (λ other. absurd (other refl)) bound,
+  tt,
+  going.sent,
+)
 
 -- a put ends a run that has requests without an answer, and want of memory ends any
 ends_so : (end : End) (run : Run) (ended : Bool) → (end ≡ Put) ⊎ (end ≡ Memory) → (end ≡ Put → length run.answers < length run.requests) → Ends end run ended
@@ -225,9 +243,12 @@ serves_put end left left' left'' old new fed tells ended a b c taken piece going
       bound = omega (arith, length-append going.stream piece, ap length none, going.size, bound);
       split = reads.1;
       answers = answers_then going.requests more going.answers put.0 going.answered going.each put.1;
-    } in
-    (run, is, ends_so end run ended which (λ at_put. omega (arith, put.2 at_put, length-append going.requests more, length-append going.answers put.0, going.each)),
-    λ told. sends_so end going.requests more going.answers put.0 a b c which going.each (going.sent told) (put.3 told))
+    } in (
+      run,
+      is,
+      ends_so end run ended which (λ at_put. omega (arith, put.2 at_put, length-append going.requests more, length-append going.answers put.0, going.each)),
+      λ told. sends_so end going.requests more going.answers put.0 a b c which going.each (going.sent told) (put.3 told),
+    )
 
 -- the same answers, of a station that tells as much
 pub puts_same : (xs ys : List (Vec ℕ Global)) (r : Result (Unit {0}) End) (t u : Bool) (b c : Content) → xs ≡ ys → t ≡ u → PutsAnswers (octets_of xs) r t b c → PutsAnswers (octets_of ys) r u b c

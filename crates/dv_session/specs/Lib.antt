@@ -3,3 +3,5 @@ pub mod Headers
 pub mod Progress
 pub mod Feeding
 pub mod Splitting
+pub mod Answers
+pub mod Serving

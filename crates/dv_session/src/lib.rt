@@ -13,8 +13,11 @@
 //! What it stands on: `dv_schema`, for the octets of a length.
 #![tactic(auto)]
 
+mod answer;
 mod framer;
 mod front;
+mod serving;
 
 pub use framer::{Fed, Framer, any_pieces, one_split};
 pub use front::{Front, REQUEST_LIMIT, header, one_answer};
+pub use serving::{End, serve};

@@ -2,16 +2,13 @@
 ghost use Rattle.std.specs.Prelude.{◌≡◌, ◌≢◌, ◌⊎◌, ◌<◌, ◌≤◌, [], IfOk, IfErr, IsTrue, length};
 ghost use Rattle.dv_outside.specs.Causes.{HasCause, Rose};
 ghost use Rattle.dv_outside.specs.Source.{is_end};
-ghost use Rattle.dv_cert.specs.Notice.{notice_of};
-ghost use Rattle.dv_session.specs.Answers.{IsAnswer, HasFailure};
 ghost use Rattle.dv_session.specs.Feeding.{octets_of};
 ghost use Rattle.dv_session.specs.Serving.{HasTaken, read_octets, Serves, PutsAnswers};
 
+use crate::answer::answer;
 use crate::framer::Framer;
-use dv_asn1::Writer;
-use dv_cert::{notice_bytes, notice_len};
 use dv_outside::{Failed, Source, Station};
-use std::alloc::{AllocError, Global};
+use std::alloc::Global;
 
 /// The most octets that a read asks for.
 const READ_LIMIT: usize = 65_536;
@@ -34,35 +31,6 @@ pub enum End {
     Refused,
     /// As many octets were taken as a run may take.
     Limit,
-}
-
-/// The failure bit of the notice that a request gets.
-fn failure_of(request: &[u8]) -> u8
-    ensures is { HasFailure request.now result }
-    ensures known { result ≤ 26 }
-{
-    let _ = request;
-    24
-}
-
-/// Fills a slice of the notice's size with it.
-fn fill_notice(into: &mut [u8], bit: u8)
-    requires bit { bit ≤ 26 }
-    requires size { length into.old ≡ length (notice_of [] bit) }
-    ensures { into.new ≡ notice_of [] bit }
-{
-    let mut out = Writer::new(into);
-    notice_bytes(None, bit, &mut out);
-}
-
-/// The answer to a request.
-fn answer(alloc: Global, request: &[u8]) -> Result<Vec<u8>, AllocError>
-    ensures { IfOk result (λ octets. IsAnswer request.now octets.items) }
-{
-    let bit = failure_of(request);
-    let mut octets = vec![in alloc; 0u8; notice_len(None, bit)]?;
-    fill_notice(&mut octets, bit);
-    Ok(octets)
 }
 
 /// Puts the answers to the requests, in order, up to the first that can't be put or for which there is no memory.
@@ -99,7 +67,12 @@ fn read_some<S: Source>(source: &mut S, buffer: &mut [u8], most: u64) -> Result<
 }
 
 /// Serves the requests that the source gives, read piece by piece into the buffer.
-fn serve_by<S: Source, V: Station>(alloc: Global, source: &mut S, station: &mut V, buffer: &mut [u8]) -> End
+fn serve_by<S: Source, V: Station>(
+    alloc: Global,
+    source: &mut S,
+    station: &mut V,
+    buffer: &mut [u8],
+) -> End
     requires { 0 < length buffer.old }
     ensures run { Serves result (S.left source.old) (S.left source.new) (S.ended source.new) (V.tells station.old) (V.content station.old) (V.content station.new) }
     ensures read_fault { result ≡ End.Read → Rose (S.faults source.old) (S.faults source.new) }

@@ -22,7 +22,7 @@ loop-request-preserved g c =
         answers_next _ so_far.0 _ _ _ so_far.1 next is,
         length-append so_far.0 (c.in-Ok.octets.items ∷ []) ∙ ap (λ (n : ℕ). n + 1) so_far.2,
         λ told. sends_next _ so_far.0 _ _ _ _ _ (so_far.3 told) c.deref-in-loop-request.ensures.value
-        (c.in-Ok-put.ensures.content (c.loop-request.invariant.tells ∙ told)),
+            (c.in-Ok-put.ensures.content (c.loop-request.invariant.tells ∙ told)),
       );
     }
 
@@ -37,8 +37,10 @@ returns-in-Err-clause-puts g c =
     let requests = c.args.requests.now in
     let item = drop_item requests c.loop-request.request-index c.request-item.result c.loop-request-test.true c.request-item.is in
     let next = ap (λ (i : ℕ). drop i (octets_of requests)) so_far.2 ∙ item in
-    let is : IsAnswer c.request-item.result.items c.in-Ok.octets.items = subst (λ (o : List ℕ). IsAnswer o c.in-Ok.octets.items) c.deref.ensures.value c.in-Ok.ensures in
-    (so_far.0, so_far.1,
-    (λ _. omega (arith, so_far.2, c.loop-request-test.true, length-map requests (λ (v : Vec ℕ Global). v.items))),
-    λ told. sends_front _ (octets_of requests) so_far.0 _ _ _ _ _ (so_far.3 told) c.deref-in-loop-request.ensures.value
-    (c.in-Err.ensures.content (c.loop-request.invariant.tells ∙ told)) (answers_one (octets_of requests) so_far.0 _ _ _ next is))
+    let is : IsAnswer c.request-item.result.items c.in-Ok.octets.items = subst (λ (o : List ℕ). IsAnswer o c.in-Ok.octets.items) c.deref.ensures.value c.in-Ok.ensures in (
+      so_far.0,
+      so_far.1,
+      (λ _. omega (arith, so_far.2, c.loop-request-test.true, length-map requests (λ (v : Vec ℕ Global). v.items))),
+      λ told. sends_front _ (octets_of requests) so_far.0 _ _ _ _ _ (so_far.3 told) c.deref-in-loop-request.ensures.value
+          (c.in-Err.ensures.content (c.loop-request.invariant.tells ∙ told)) (answers_one (octets_of requests) so_far.0 _ _ _ next is),
+    )

@@ -87,7 +87,7 @@ loop-taken-preserved g c =
           (g.V.Station.content c.args.station.now) (g.V.Station.content c.put_answers.new.station) (c.loop-taken.taken + n)) size
           (going_more _ _ _ _ _ c.in-Ok-feed.fed _ _ _ _ c.loop-taken.taken piece inv.going c.in-Ok.ensures.content c.in-Ok-feed.ensures.ok
           (puts_same c.deref.result.now c.in-Ok-feed.fed.requests.items (Ok tt) (g.V.Station.tells c.loop-taken.station) (g.V.Station.tells c.args.station.now)
-    (g.V.Station.content c.loop-taken.station) (g.V.Station.content c.put_answers.new.station) c.deref.ensures.value inv.tells c.in-Ok-put_answers.ensures.puts));
+          (g.V.Station.content c.loop-taken.station) (g.V.Station.content c.put_answers.new.station) c.deref.ensures.value inv.tells c.in-Ok-put_answers.ensures.puts));
       tells = c.put_answers.ensures.tells ∙ inv.tells;
       source_later = omega (arith, inv.source_later, c.read_some.ensures.cause.later);
       station_later = omega (arith, inv.station_later, c.put_answers.ensures.later);
