@@ -1,3 +1,4 @@
 pub mod Line
+pub mod Server
 pub mod Status
 pub mod Tool

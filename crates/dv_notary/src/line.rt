@@ -2,6 +2,9 @@
 ghost use Rattle.std.specs.Prelude.{◌≡◌, option_map};
 ghost use Rattle.dv_notary.specs.Line.{line_of, texts_of, told_by};
 
+/// What a faulty line is answered on the diagnostics.
+pub const USAGE: &str = "usage: dv_notary request cpd FILE, or: dv_notary serve";
+
 /// A line of the program, with its values.
 #[derive(Clone, Copy, Debug)]
 pub enum Line<'a> {
@@ -10,6 +13,8 @@ pub enum Line<'a> {
         /// The file's name.
         file: &'a str,
     },
+    /// `serve`: answers the requests of the standard input.
+    Serve,
 }
 
 /// The line that the words are. `None` exactly where they are no line.
@@ -22,6 +27,7 @@ pub fn read_words(words: &[String]) -> Option<Line<'_>>
                 file: file.as_str(),
             })
         }
+        [command] if command.as_str() == "serve" => Some(Line::Serve),
         _ => None,
     }
 }

@@ -8,9 +8,11 @@
 #![tactic(auto)]
 
 mod line;
+mod server;
 mod status;
 mod tool;
 
+use crate::server::run_serve;
 use crate::status::Status;
 use crate::tool::run_tool;
 use dv_outside::{Diag, DirShelf, FileStation, StdDiag, StdSource, SystemClock};
@@ -49,14 +51,32 @@ fn main(rt: HostRuntime) -> ExitCode {
         [_, path, ..] => path.as_str(),
         _ => "",
     };
-    let (status, _station) = run_tool(
-        &rt,
-        words.as_slice(),
-        &mut DirShelf::new(&rt),
-        &mut StdSource::new(rt.reader()),
-        &mut SystemClock::new(&rt),
-        &mut diag,
-        FileStation::new(&rt, path),
-    );
+    let mut shelf = DirShelf::new(&rt);
+    let mut source = StdSource::new(rt.reader());
+    let mut clock = SystemClock::new(&rt);
+    let station = FileStation::new(&rt, path);
+    let words = words.as_slice();
+    let (status, _station) = match words {
+        [command, ..] if command.as_str() == "serve" => {
+            run_serve(
+                &rt,
+                words,
+                &mut shelf,
+                &mut source,
+                &mut clock,
+                &mut diag,
+                station,
+            )
+        }
+        _ => run_tool(
+            &rt,
+            words,
+            &mut shelf,
+            &mut source,
+            &mut clock,
+            &mut diag,
+            station,
+        ),
+    };
     ExitCode::from(status)
 }

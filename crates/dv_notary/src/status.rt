@@ -11,12 +11,18 @@ pub enum Status {
     Words = 2,
     /// A file is too long.
     File = 3,
+    /// The input could not be read.
+    Read = 4,
     /// The output could not be written.
     Put = 5,
     /// There was not enough memory.
     Memory = 8,
+    /// The input has octets after its last request that are none.
+    Input = 9,
     /// A file could not be read.
     Shelf = 10,
+    /// As many octets were taken as a run of the server takes.
+    Limit = 13,
 }
 
 impl Status {

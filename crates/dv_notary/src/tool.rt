@@ -3,11 +3,11 @@ ghost use Rattle.std.specs.Prelude.{◌≡◌, ◌≢◌, ◌⊎◌, ◌↔◌, 
 ghost use Rattle.dv_outside.specs.Causes.{Rose};
 ghost use Rattle.dv_outside.specs.Shelf.{IsLongerThan};
 ghost use Rattle.dv_outside.specs.Station.{Spends};
-ghost use Rattle.dv_notary.specs.Line.{line_of, texts_of, request_possession as possession_line};
+ghost use Rattle.dv_notary.specs.Line.{line_of, tool_line, texts_of, request_possession as possession_line};
 ghost use Rattle.dv_notary.specs.Status.{number_of};
 ghost use Rattle.dv_notary.specs.Tool.{IsStatus, PutsRequest};
 
-use crate::line::{Line, read_words};
+use crate::line::{Line, USAGE, read_words};
 use crate::status::Status;
 use dv_outside::{Clock, Diag, Shelf, ShelfRefusal, Source, Station};
 use dv_request::{Make, cpd_request};
@@ -15,8 +15,6 @@ use std::alloc::Global;
 
 /// The most octets of a file whose possession is asked for.
 pub const FILE_LIMIT: u64 = 262_000;
-
-const USAGE: &str = "usage: dv_notary request cpd FILE";
 
 /// Writes `name: text` on the diagnostics, or the text alone where there is no memory for both.
 fn say<E: Diag>(alloc: Global, diag: &mut E, name: &str, text: &str) {
@@ -31,6 +29,7 @@ fn refused<E: Diag>(alloc: Global, diag: &mut E, file: &str, refusal: ShelfRefus
     ensures too_long { (result ≡ Status.File) ↔ (refusal ≡ ShelfRefusal.TooLong) }
     ensures failed { (result ≡ Status.Shelf) ↔ (refusal ≡ ShelfRefusal.Failed) }
     ensures memory { (result ≡ Status.Memory) ↔ (refusal ≡ ShelfRefusal.Memory) }
+    ensures status { IsStatus (number_of result) }
 {
     match refusal {
         ShelfRefusal::Failed => {
@@ -56,6 +55,7 @@ fn request_possession<V: Station, F: Shelf, E: Diag>(
     diag: &mut E,
     station: &mut V,
 ) -> Status
+    ensures status { IsStatus (number_of result) }
     ensures words { result ≢ Status.Words }
     ensures put { (result ≡ Status.Done) ⊎ (result ≡ Status.Put) → PutsRequest (F.files shelf.old) file.now (number_of result) (V.tells station.old) (V.content station.old) (V.content station.new) }
     ensures quiet { result ≢ Status.Done → result ≢ Status.Put → station.new ≡ station.old }
@@ -93,7 +93,7 @@ fn request_possession<V: Station, F: Shelf, E: Diag>(
 /// | Status | Comes |
 /// |---|---|
 /// | 0 | the request for the file's octets was put |
-/// | 2 | exactly where the words are no line |
+/// | 2 | exactly where the words are no line of such a command |
 /// | 3 | exactly where the file is longer than 262,000 octets |
 /// | 5 | only where the station's count of failed puts rose in this call |
 /// | 8 | want of memory |
@@ -110,7 +110,7 @@ pub fn run_tool<R: AllocGlobal, S: Source, V: Station, F: Shelf, C: Clock, E: Di
     station: V,
 ) -> (u8, V)
     ensures status { IsStatus result.0 }
-    ensures words { (result.0 ≡ 2) ↔ (line_of (texts_of words.now) ≡ None) }
+    ensures words { (result.0 ≡ 2) ↔ (tool_line (line_of (texts_of words.now)) ≡ None) }
 
     // `request cpd FILE`: with 0 the request for the file's octets was put by one call, and with 5 a part of it.
     ensures put { (file : List ℕ) → line_of (texts_of words.now) ≡ Some (possession_line file) → (result.0 ≡ 0) ⊎ (result.0 ≡ 5)
@@ -134,7 +134,7 @@ pub fn run_tool<R: AllocGlobal, S: Source, V: Station, F: Shelf, C: Clock, E: Di
         Some(Line::RequestPossession { file }) => {
             request_possession(rt.alloc(), file, shelf, diag, &mut station)
         }
-        None => {
+        Some(Line::Serve) | None => {
             diag.line(USAGE);
             Status::Words
         }

@@ -1,0 +1,137 @@
+//! Runs of the server over the outside in memory: what is put for which input, and how a run ends.
+
+ghost use Rattle.std.specs.Prelude.{◌<◌};
+
+use super::*;
+use dv_outside_mem::{MemClock, MemDiag, MemShelf, MemSource, MemStation};
+use std::alloc::Global;
+use std::collections::BTreeMap;
+use std::test::Fail;
+
+/// The request for possession of `abc`, and then that of no octets.
+const TWO_REQUESTS: [u8; 55] = [
+    0x30, 0x1B, 0x06, 0x0B, 0x2A, 0x86, 0x48, 0x86, 0xF7, 0x0D, 0x01, 0x09, 0x10, 0x01, 0x07, 0xA0,
+    0x0C, 0x30, 0x0A, 0x30, 0x03, 0x0A, 0x01, 0x01, 0x04, 0x03, 0x61, 0x62, 0x63, 0x30, 0x18, 0x06,
+    0x0B, 0x2A, 0x86, 0x48, 0x86, 0xF7, 0x0D, 0x01, 0x09, 0x10, 0x01, 0x07, 0xA0, 0x09, 0x30, 0x07,
+    0x30, 0x03, 0x0A, 0x01, 0x01, 0x04, 0x00,
+];
+
+/// The notice systemUnavail.
+const SYSTEM_UNAVAIL: [u8; 31] = [
+    0x30, 0x1D, 0x06, 0x0B, 0x2A, 0x86, 0x48, 0x86, 0xF7, 0x0D, 0x01, 0x09, 0x10, 0x01, 0x08, 0xA0,
+    0x0E, 0xA0, 0x0C, 0x30, 0x0A, 0x02, 0x01, 0x02, 0x03, 0x05, 0x07, 0x00, 0x00, 0x00, 0x80,
+];
+
+/// The notice badDataFormat.
+const BAD_DATA_FORMAT: [u8; 28] = [
+    0x30, 0x1A, 0x06, 0x0B, 0x2A, 0x86, 0x48, 0x86, 0xF7, 0x0D, 0x01, 0x09, 0x10, 0x01, 0x08, 0xA0,
+    0x0B, 0xA0, 0x09, 0x30, 0x07, 0x02, 0x01, 0x02, 0x03, 0x02, 0x02, 0x04,
+];
+
+/// Runs the server on these octets, the first read giving `cut` of them, with the numbers of the reads and of the puts that
+/// fail.
+fn serve_octets(
+    rt: &HostRuntime,
+    octets: Vec<u8>,
+    cut: usize,
+    reads: Vec<u64>,
+    puts: Vec<u64>,
+) -> Result<(u8, MemStation), Fail>
+    requires { 0 < cut }
+{
+    let alloc = rt.alloc();
+    let mut words = Vec::new(alloc);
+    words.push("serve".to_string(alloc)?)?;
+    let station = MemStation::new(alloc, Vec::new(alloc), puts, 100, 1_000_000)?;
+    let (status, station) = run_serve(
+        rt,
+        words.as_slice(),
+        &mut MemShelf::new(BTreeMap::new(alloc), Vec::new(alloc)),
+        &mut MemSource::new(octets, vec![in alloc; cut]?, reads),
+        &mut MemClock::new(vec![in alloc; 0u64]?, Vec::new(alloc)),
+        &mut MemDiag::new(alloc),
+        station,
+    );
+    Ok((status, station))
+}
+
+/// The octets of two parts, one behind the other.
+fn joined(alloc: Global, first: &[u8], second: &[u8]) -> Result<Vec<u8>, Fail> {
+    let mut octets = first.to_vec(alloc)?;
+    octets.extend_from_slice(second)?;
+    Ok(octets)
+}
+
+#[test]
+fn any_cut(rt: HostRuntime) -> Result<(), Fail> {
+    let alloc = rt.alloc();
+    let notices = joined(alloc, &SYSTEM_UNAVAIL, &SYSTEM_UNAVAIL)?;
+    for cut in 1usize..56 {
+        let octets = TWO_REQUESTS.to_vec(alloc)?;
+        let (status, station) = serve_octets(&rt, octets, cut, Vec::new(alloc), Vec::new(alloc))?;
+        assert_eq!(rt; status, 0, "cut after {cut}");
+        assert_eq!(rt; station.sent(), notices.as_slice(), "cut after {cut}");
+        assert_eq!(rt; station.calls(), 2, "cut after {cut}");
+    }
+    Ok(())
+}
+
+/// Inputs, with the status and the notices that they get.
+#[rattlefmt::skip]
+const ROWS: [(&[u8], u8, &[u8]); 7] = [
+    (&[], 0, &[]),
+    (&[0x30, 0x00], 0, &BAD_DATA_FORMAT),
+    (&[0x30, 0x01], 9, &[]),
+    (&[0x30], 9, &[]),
+    (&[0x31, 0x00], 9, &[]),
+    (&[0x30, 0x00, 0x30, 0x83, 0x03, 0xFF, 0xFC, 0x30, 0x00], 9, &BAD_DATA_FORMAT),
+    (&[0x30, 0x00, 0x30, 0x81, 0x7F], 9, &BAD_DATA_FORMAT),
+];
+
+#[test]
+fn ends(rt: HostRuntime) -> Result<(), Fail> {
+    let alloc = rt.alloc();
+    for (octets, wanted, notices) in ROWS {
+        let (status, station) = serve_octets(
+            &rt,
+            octets.to_vec(alloc)?,
+            65_536,
+            Vec::new(alloc),
+            Vec::new(alloc),
+        )?;
+        assert_eq!(rt; status, wanted, "{octets:?}");
+        assert_eq!(rt; station.sent(), notices, "{octets:?}");
+    }
+    Ok(())
+}
+
+// A value of 262,144 octets is the longest request.
+#[test]
+fn the_longest_request(rt: HostRuntime) -> Result<(), Fail> {
+    let alloc = rt.alloc();
+    let body = vec![in alloc; 0u8; 262_139]?;
+    let octets = joined(alloc, &[0x30, 0x83, 0x03, 0xFF, 0xFB], &body)?;
+    let (status, station) = serve_octets(&rt, octets, 65_536, Vec::new(alloc), Vec::new(alloc))?;
+    assert_eq!(rt; status, 0);
+    assert_eq!(rt; station.sent(), BAD_DATA_FORMAT.as_slice());
+    Ok(())
+}
+
+// The first read gives the first request and a part of the second.
+#[test]
+fn faults(rt: HostRuntime) -> Result<(), Fail> {
+    let alloc = rt.alloc();
+    let octets = TWO_REQUESTS.to_vec(alloc)?;
+    let (status, station) = serve_octets(&rt, octets, 40, vec![in alloc; 1u64]?, Vec::new(alloc))?;
+    assert_eq!(rt; status, 4);
+    assert_eq!(rt; station.sent(), SYSTEM_UNAVAIL.as_slice());
+
+    let octets = TWO_REQUESTS.to_vec(alloc)?;
+    let (status, station) = serve_octets(&rt, octets, 55, Vec::new(alloc), vec![in alloc; 1u64]?)?;
+    assert_eq!(rt; status, 5);
+    assert_eq!(rt;
+        station.sent(),
+        joined(alloc, &SYSTEM_UNAVAIL, &SYSTEM_UNAVAIL[..15])?.as_slice()
+    );
+    Ok(())
+}
