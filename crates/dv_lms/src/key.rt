@@ -35,7 +35,9 @@ impl Model for Key {
 }
 
 impl Key {
-    /// The key of this height, identifier and seed. An `Err` is want of memory.
+    /// The key of this height, identifier and seed.
+    ///
+    /// It keeps no nodes of its tree, so no memory is taken: an `Err` would be want of it.
     pub fn from_seed(
         _alloc: Global,
         height: Height,
