@@ -1,3 +1,4 @@
 pub mod SourceLemmas
 pub mod ClockLemmas
-pub mod SentLemmas
+pub mod JournalLemmas
+pub mod StationLemmas

@@ -3,7 +3,10 @@ pub mod Source
 pub mod Clock
 pub mod Amount
 pub mod Meter
-pub mod Sent
+pub mod Over
+pub mod Replay
+pub mod Reads
+pub mod Journal
 pub mod MemShelf
 pub mod MemStation
 pub mod MemDiag

@@ -18,6 +18,8 @@
 
 mod clock;
 mod diag;
+mod journal;
+mod made;
 mod meter;
 mod plan;
 mod shelf;
