@@ -99,9 +99,8 @@ impl Station for MemStation {
 
     fn len(&mut self) -> Result<u64, Failed>
         // The trait's.
-        ensures length { IsTrue true → IfOk result (λ n. n ≡ length (content self.old).reads) }
-        ensures content { IsTrue true → Looks (content self.old) (content self.new) }
-        ensures tells { true ≡ true }
+        ensures length { IfOk result (λ n. n ≡ length (content self.old).reads) }
+        ensures content { Looks (content self.old) (content self.new) }
         ensures cause { HasCause (counts self.old).faults (counts self.new).faults result }
         ensures puts { (counts self.new).put_faults ≡ (counts self.old).put_faults }
         ensures spends { Spends 1 0 (counts self.old) (counts self.new) }
@@ -125,11 +124,10 @@ impl Station for MemStation {
 
     fn read_at(&mut self, place: u64, into: &mut [u8]) -> Result<(), Failed>
         // The trait's.
-        requires { IsTrue true → place + length into.old ≤ length (content self.old).reads }
-        ensures octets { IsTrue true → OnOk result
+        requires { place + length into.old ≤ length (content self.old).reads }
+        ensures octets { OnOk result
             (into.new ≡ slice_range (content self.old).reads place (place + length into.old)) }
-        ensures content { IsTrue true → Looks (content self.old) (content self.new) }
-        ensures tells { true ≡ true }
+        ensures content { Looks (content self.old) (content self.new) }
         ensures cause { HasCause (counts self.old).faults (counts self.new).faults result }
         ensures puts { (counts self.new).put_faults ≡ (counts self.old).put_faults }
         ensures spends { Spends 1 0 (counts self.old) (counts self.new) }
@@ -156,9 +154,8 @@ impl Station for MemStation {
     fn write_at(&mut self, place: u64, bytes: &[u8]) -> Result<(), Failed>
         // The trait's.
         requires end { place + length bytes.now ≤ 2 ^ 40 }
-        requires place { IsTrue true → place ≤ length (content self.old).reads }
-        ensures content { IsTrue true → Writes place bytes.now result (content self.old) (content self.new) }
-        ensures tells { true ≡ true }
+        requires place { place ≤ length (content self.old).reads }
+        ensures content { Writes place bytes.now result (content self.old) (content self.new) }
         ensures cause { HasCause (counts self.old).faults (counts self.new).faults result }
         ensures puts { (counts self.new).put_faults ≡ (counts self.old).put_faults }
         ensures spends { Spends 1 (length bytes.now) (counts self.old) (counts self.new) }
@@ -184,8 +181,7 @@ impl Station for MemStation {
 
     fn sync(&mut self) -> Result<(), Failed>
         // The trait's.
-        ensures content { IsTrue true → Syncs result (content self.old) (content self.new) }
-        ensures tells { true ≡ true }
+        ensures content { Syncs result (content self.old) (content self.new) }
         ensures cause { HasCause (counts self.old).faults (counts self.new).faults result }
         ensures puts { (counts self.new).put_faults ≡ (counts self.old).put_faults }
         ensures spends { Spends 1 0 (counts self.old) (counts self.new) }
@@ -209,8 +205,7 @@ impl Station for MemStation {
 
     fn put(&mut self, bytes: &[u8]) -> Result<(), Failed>
         // The trait's.
-        ensures content { IsTrue true → Puts bytes.now result (content self.old) (content self.new) }
-        ensures tells { true ≡ true }
+        ensures content { Puts bytes.now result (content self.old) (content self.new) }
         ensures cause { HasCause (counts self.old).put_faults (counts self.new).put_faults result }
         ensures faults { (counts self.new).faults ≡ (counts self.old).faults }
         ensures spends { Spends 1 (length bytes.now) (counts self.old) (counts self.new) }

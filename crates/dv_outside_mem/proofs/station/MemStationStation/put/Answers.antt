@@ -5,10 +5,10 @@ use Rattle.dv_outside_mem.proofs.StationLemmas.{puts_none}
 use Rattle.dv_outside_mem.proofs.station.MemStationStation.put.Goals as goal
 
 pub returns-in-Works-clause-content : goal.returns-in-Works-clause-content
-returns-in-Works-clause-content c = λ told. c.put.ensures.puts _ refl
+returns-in-Works-clause-content c = c.put.ensures.puts _ refl
 
 pub returns-in-Fails-clause-content : goal.returns-in-Fails-clause-content
-returns-in-Fails-clause-content c = λ told. c.put-in-Fails.ensures.puts _ tt
+returns-in-Fails-clause-content c = c.put-in-Fails.ensures.puts _ tt
 
 pub returns-in-Past-clause-content : goal.returns-in-Past-clause-content
-returns-in-Past-clause-content c = λ told. puts_none (content c.args.self.now.journal) c.args.bytes.now _
+returns-in-Past-clause-content c = puts_none (content c.args.self.now.journal) c.args.bytes.now _

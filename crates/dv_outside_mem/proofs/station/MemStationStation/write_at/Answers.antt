@@ -5,10 +5,10 @@ use Rattle.dv_outside_mem.proofs.StationLemmas.{writes_none}
 use Rattle.dv_outside_mem.proofs.station.MemStationStation.write_at.Goals as goal
 
 pub returns-in-Works-clause-content : goal.returns-in-Works-clause-content
-returns-in-Works-clause-content c = λ told. c.write.ensures.writes _ refl
+returns-in-Works-clause-content c = c.write.ensures.writes _ refl
 
 pub returns-in-Fails-clause-content : goal.returns-in-Fails-clause-content
-returns-in-Fails-clause-content c = λ told. c.write-in-Fails.ensures.writes _ tt
+returns-in-Fails-clause-content c = c.write-in-Fails.ensures.writes _ tt
 
 pub returns-in-Past-clause-content : goal.returns-in-Past-clause-content
-returns-in-Past-clause-content c = λ told. writes_none (content c.args.self.now.journal) c.args.place c.args.bytes.now _
+returns-in-Past-clause-content c = writes_none (content c.args.self.now.journal) c.args.place c.args.bytes.now _
