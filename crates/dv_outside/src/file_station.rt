@@ -159,6 +159,7 @@ impl<R: Files + Print> Station for FileStation<'_, R> {
 mod tests {
     use super::*;
     use std::test::Fail;
+    use std::{env, fs, process};
 
     // Takes at most two octets at a time, after a signal, and none once it is full.
     #[derive(Drop)]
@@ -203,5 +204,44 @@ mod tests {
         assert_eq!(rt; station.put(b"standard output"), Ok(()));
         assert_eq!(rt; station.put_faults, 0);
         Ok(())
+    }
+
+    #[test]
+    fn keeps_a_register_in_a_file(rt: HostRuntime) -> Result<(), Fail> {
+        let alloc = rt.alloc();
+        let id = process::id(rt.process());
+        let path = env::temp_dir(&rt)?.join(alloc, format!(in alloc; "dv_outside-station-{id}")?)?;
+        let mut station = FileStation::new(&rt, path.as_str());
+        assert!(rt; !path.exists(&rt));
+        assert_eq!(rt; station.len(), Ok(0));
+        assert!(rt; path.exists(&rt));
+        assert_eq!(rt; station.write_at(0, b"abcd"), Ok(()));
+        assert_eq!(rt; station.write_at(2, b"CDEF"), Ok(()));
+        assert_eq!(rt; station.sync(), Ok(()));
+
+        let mut station = FileStation::new(&rt, path.as_str());
+        let mut into = [0; 4];
+        assert_eq!(rt; station.len(), Ok(6));
+        assert_eq!(rt; station.read_at(1, &mut into), Ok(()));
+        assert_eq!(rt; into, *b"bCDE");
+        assert_eq!(rt; station.read_at(3, &mut into), Err(Failed), "past the end");
+        assert_eq!(rt; (station.faults, station.put_faults), (1, 0));
+        fs::remove_file(&rt, path.as_path())?;
+        Ok(())
+    }
+
+    #[test]
+    fn a_fault_is_counted(rt: HostRuntime) {
+        // A folder isn't written as a file. On the full device a write fails, then the sync, and from there on all.
+        let mut station = FileStation::new(&rt, ".");
+        assert_eq!(rt; (station.len(), station.sync()), (Err(Failed), Err(Failed)));
+        assert_eq!(rt; station.faults, 2);
+        if fs::exists(&rt, "/dev/full").unwrap_or(false) {
+            let mut station = FileStation::new(&rt, "/dev/full");
+            assert_eq!(rt; station.write_at(0, b"a"), Err(Failed));
+            assert_eq!(rt; station.len(), Ok(0));
+            assert_eq!(rt; (station.sync(), station.len()), (Err(Failed), Err(Failed)));
+            assert_eq!(rt; station.faults, 3);
+        }
     }
 }

@@ -1,25 +1,25 @@
 -- One call joins those that were made.
-use Rattle.std.proofs.Common.{zero, suc, ◌≡◌, ◌∙◌, ℕ, ◌+◌, ◌-◌, ◌<◌, ◌≤◌, ◌↔◌, min, true, false, Bool, List, [], ◌∷◌, ◌++◌, length, take, drop, subst, ap, refl, sym, arith, length-append, length-drop, length-take}
+use Rattle.std.proofs.Common.{zero, suc, ◌≡◌, ◌∙◌, ℕ, ◌+◌, ◌<◌, ◌≤◌, min, true, false, Bool, List, [], ◌∷◌, ◌++◌, length, take, drop, subst, ap, refl, sym, arith, length-append, length-drop}
 use Rattle.std.proofs.lemmas.List.{drop_at, take_all, take-append-le, drop-append-le}
 use Rattle.std.proofs.lemmas.Bool.Decides.{nat_tests}
 use Rattle.std.proofs.lemmas.Result.{on_ok_weaker}
 use Rattle.std.specs.Prelude.{Result, Ok, Err, OnOk, nat_le, if◌then◌else◌}
-use Rattle.dv_outside.specs.Station.{Content, ChangesIn, DiffersIn, Keeps, Looks, Syncs, Writes, Puts}
+use Rattle.dv_outside.specs.Station.{ChangesIn, DiffersIn, Keeps, Looks, Syncs, Writes, Puts}
 use Rattle.dv_outside_mem.specs.declared.made.Made.{Made}
 use Rattle.dv_outside_mem.specs.declared.made.Made.TheVariants.{Look, Sync, Write, Put}
 use Rattle.dv_outside_mem.specs.Over.{over}
-use Rattle.dv_outside_mem.specs.Replay.{State, Range, write_to, send_to, step, after, IsImage, start, content_of, is_within, all_within, Stands}
+use Rattle.dv_outside_mem.specs.Replay.{State, write_to, send_to, step, after, IsImage, start, content_of, is_within, all_within, Stands}
 use Rattle.dv_outside_mem.specs.Reads.{after_reads, reaches-last, over_changes}
 
 -- What a test of numbers says.
-le_of_test : (m n : ℕ) → nat_le m n ≡ true → m ≤ n
+pub le_of_test : (m n : ℕ) → nat_le m n ≡ true → m ≤ n
 le_of_test m n is = grind (arith, nat_tests)
 
 pub test_of_le : (m n : ℕ) → m ≤ n → nat_le m n ≡ true
 test_of_le m n le = grind (arith, nat_tests)
 
 -- Both tests of two.
-both_of : (a b : Bool) → (if a then b else false) ≡ true → (a ≡ true) × (b ≡ true)
+pub both_of : (a b : Bool) → (if a then b else false) ≡ true → (a ≡ true) × (b ≡ true)
 both_of true b is = (refl, is)
 both_of false b is = absurd (cc)
 
@@ -46,12 +46,12 @@ after_stays tape more s (m ∷ log) within =
     ap (λ (t : State). after (tape ++ more) t log) (step_stays tape more s m two.0) ∙ after_stays tape more (step tape s m) log two.1
 
 -- One call behind others.
-after-push : (tape : List ℕ) (s : State) (log : List Made) (m : Made) → after tape s (log ++ m ∷ []) ≡ step tape (after tape s log) m
+pub after-push : (tape : List ℕ) (s : State) (log : List Made) (m : Made) → after tape s (log ++ m ∷ []) ≡ step tape (after tape s log) m
 after-push tape s [] m = refl
 after-push tape s (x ∷ log) m = after-push tape (step tape s x) log m
 
 -- The first calls lie within the tape too, also where it is longer.
-all_within-take : (n k : ℕ) (log : List Made) → all_within n log ≡ true → all_within n (take k log) ≡ true
+pub all_within-take : (n k : ℕ) (log : List Made) → all_within n log ≡ true → all_within n (take k log) ≡ true
 all_within-take n zero log within = refl
 all_within-take n (suc k) [] within = refl
 all_within-take n (suc k) (m ∷ log) within =

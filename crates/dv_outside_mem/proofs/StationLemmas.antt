@@ -1,5 +1,5 @@
 -- A call past the room does nothing.
-use Rattle.std.proofs.Common.{ℕ, ◌<◌, ◌≤◌, List, refl, arith}
+use Rattle.std.proofs.Common.{ℕ, List, refl, arith}
 use Rattle.std.specs.Prelude.{Err}
 use Rattle.dv_outside.specs.Station.{Content, Keeps, Writes, Puts}
 

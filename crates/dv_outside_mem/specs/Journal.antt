@@ -1,12 +1,21 @@
 -- What contracts see of a journal.
-use Rattle.std.specs.Prelude.{◌≡◌, ℕ, ◌+◌, ◌<◌, ◌≤◌, vec_len, vec_capacity}
+use Rattle.std.specs.Prelude.{◌≡◌, ℕ, ◌+◌, ◌<◌, ◌≤◌, List, vec_len, vec_capacity}
 use Rattle.dv_outside.specs.Station.{Content, Amount, Within}
+use Rattle.dv_outside_mem.specs.Image.{crash_moment, image_of}
 use Rattle.dv_outside_mem.specs.Replay.{content_of}
+use Rattle.dv_outside_mem.specs.declared.image.Pick.{Pick}
 use Rattle.dv_outside_mem.specs.declared.journal.Journal.{Journal}
 
 -- What it tells.
 abbrev pub content : Journal → Content
 content j = content_of j.base.items j.file.items j.tape.items j.log.items
+
+-- The moment at which a crash during a call is looked at, and what a pick leaves then.
+abbrev pub moment_in : Journal → ℕ → ℕ
+moment_in j call = crash_moment j.log.items call
+
+abbrev pub image_in : Journal → ℕ → Pick → List ℕ
+image_in j call pick = image_of j.base.items j.tape.items j.log.items call pick
 
 -- There is room for a call that is handed so many octets.
 pub record HasRoom (octets : ℕ) (j : Journal) : Type 0 where

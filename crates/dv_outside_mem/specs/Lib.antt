@@ -6,6 +6,7 @@ pub mod Meter
 pub mod Over
 pub mod Replay
 pub mod Reads
+pub mod Image
 pub mod Journal
 pub mod MemShelf
 pub mod MemStation

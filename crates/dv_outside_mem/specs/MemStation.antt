@@ -2,7 +2,8 @@
 use Rattle.std.specs.Prelude.{◌≡◌, ◌↔◌, ◌⊎◌, ℕ, List, [], Some, Contains}
 use Rattle.dv_outside.specs.Station.{Content, Counts, Amount}
 use Rattle.dv_outside_mem.specs.Amount.{Past, CountsCall, sure_of}
-use Rattle.dv_outside_mem.specs.Journal.{content as journal_content}
+use Rattle.dv_outside_mem.specs.Journal.{content as journal_content, moment_in as journal_moment, image_in as journal_image}
+use Rattle.dv_outside_mem.specs.declared.image.Pick.{Pick}
 use Rattle.dv_outside_mem.specs.declared.station.MemStation.{MemStation}
 
 -- What it tells.
@@ -12,6 +13,14 @@ content station = journal_content station.journal
 -- What had been sent by now.
 abbrev pub sent_now : MemStation → List ℕ
 sent_now station = (content station).sent (content station).moment
+
+-- The moment at which a crash during a call is looked at: a write counts as made, any other call not yet.
+abbrev pub moment_in : MemStation → ℕ → ℕ
+moment_in station call = journal_moment station.journal call
+
+-- What a pick leaves of the file in a crash during a call.
+abbrev pub image_in : MemStation → ℕ → Pick → List ℕ
+image_in station call pick = journal_image station.journal call pick
 
 -- What its calls used.
 abbrev pub used_of : MemStation → Amount

@@ -1,11 +1,11 @@
 -- The file as it is now is one of its images.
-use Rattle.std.proofs.Common.{◌≡◌, ◌∙◌, ◌⊎◌, ⊎_elim, ℕ, ◌+◌, ◌-◌, ◌<◌, ◌≤◌, min, List, [], ◌∷◌, ◌++◌, length, take, drop, subst, ap, refl, sym, arith, append_assoc, length-append, length-take, length-drop}
+use Rattle.std.proofs.Common.{◌≡◌, ◌∙◌, ◌⊎◌, ⊎_elim, ℕ, ◌+◌, ◌-◌, ◌<◌, ◌≤◌, min, List, [], ◌∷◌, ◌++◌, length, take, drop, subst, ap, refl, sym, arith, append_assoc, length-append, length-take}
 use Rattle.std.proofs.lemmas.List.{take_at, drop_at, drop_all, drop-take, take_all, drop-drop, length-take-le}
 use Rattle.dv_outside.specs.Station.{ChangesIn, DiffersIn}
 use Rattle.dv_outside_mem.specs.declared.made.Made.{Made}
 use Rattle.dv_outside_mem.specs.declared.made.Made.TheVariants.{Look, Sync, Write, Put}
 use Rattle.dv_outside_mem.specs.Over.{over}
-use Rattle.dv_outside_mem.specs.Replay.{Range, State, step, after, Reaches, IsImage, start, write_to}
+use Rattle.dv_outside_mem.specs.Replay.{Range, State, step, after, Reaches, IsImage, start}
 
 -- One write more, at the end.
 pub reaches-push : (ranges : List Range) (r : Range) (from mid to : List ℕ) → Reaches ranges from mid → DiffersIn r.place r.size r.end mid to → Reaches (ranges ++ r ∷ []) from to

@@ -5,6 +5,7 @@ ghost use Rattle.dv_outside.specs.declared.fault.Failed.{Failed};
 ghost use Rattle.dv_outside_mem.specs.Over.{over};
 ghost use Rattle.dv_outside_mem.specs.Replay.{Stands};
 
+use crate::image::{Pick, image};
 use crate::made::Made;
 use crate::tape::{add, keep, overwrite};
 use std::alloc::{AllocError, Global};
@@ -22,7 +23,7 @@ pub struct Journal {
 }
 
 impl Journal {
-    ghost use Rattle.dv_outside_mem.specs.Journal.{content, HasRoom, Fills, Fits};
+    ghost use Rattle.dv_outside_mem.specs.Journal.{content, moment_in, image_in, HasRoom, Fills, Fits};
 
     /// A file that holds these octets, with the memory for so many calls that are handed so many octets.
     pub fn new(
@@ -67,6 +68,15 @@ impl Journal {
         ensures { result ≡ (content self.now).moment }
     {
         self.log.len()
+    }
+
+    /// What a pick leaves of the file in a crash during the call of this number.
+    pub fn image(&self, alloc: Global, call: usize, pick: Pick) -> Result<Vec<u8>, AllocError>
+        requires { call ≤ (content self.now).moment }
+        ensures picked { IfOk result (λ octets. octets.items ≡ image_in self.now call pick) }
+        ensures may { IfOk result (λ octets. (content self.now).image (moment_in self.now call) octets.items) }
+    {
+        image(alloc, &self.base, &self.tape, &self.log, call, pick)
     }
 
     /// A call that changes nothing.

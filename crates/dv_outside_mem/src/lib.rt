@@ -18,6 +18,7 @@
 
 mod clock;
 mod diag;
+mod image;
 mod journal;
 mod made;
 mod meter;
@@ -29,6 +30,7 @@ mod tape;
 
 pub use clock::MemClock;
 pub use diag::MemDiag;
+pub use image::Pick;
 pub use shelf::MemShelf;
 pub use source::MemSource;
 pub use station::MemStation;

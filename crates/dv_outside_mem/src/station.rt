@@ -6,6 +6,7 @@ ghost use Rattle.dv_outside_mem.specs.Plan.{counted};
 ghost use Rattle.dv_outside_mem.specs.Over.{over};
 ghost use Rattle.dv_outside_mem.specs.Journal.{Fits};
 
+use crate::image::Pick;
 use crate::journal::Journal;
 use crate::meter::{Meter, Turn};
 use dv_outside::{Failed, Station};
@@ -26,7 +27,7 @@ pub struct MemStation {
 }
 
 impl MemStation {
-    ghost use Rattle.dv_outside_mem.specs.MemStation.{content, sent_now, counts, used_of, room_of, failing_of, IsFresh};
+    ghost use Rattle.dv_outside_mem.specs.MemStation.{content, sent_now, moment_in, image_in, counts, used_of, room_of, failing_of, IsFresh};
 
     /// A station whose file holds these octets, with room for so many calls and for so many octets that are handed to
     /// `write_at` and `put`.
@@ -73,6 +74,16 @@ impl MemStation {
         ensures { result.now ≡ sent_now self.now }
     {
         self.journal.sent()
+    }
+
+    /// What a crash during the call of this number may leave of the file. A write of that number counts as made, and a sync
+    /// of that number as not yet made; with `calls()` as the number it is the moment after all calls.
+    pub fn image(&self, alloc: Global, call: u64, pick: Pick) -> Result<Vec<u8>, AllocError>
+        requires { call ≤ (content self.now).moment }
+        ensures picked { IfOk result (λ octets. octets.items ≡ image_in self.now call pick) }
+        ensures may { IfOk result (λ octets. (content self.now).image (moment_in self.now call) octets.items) }
+    {
+        self.journal.image(alloc, call as usize, pick)
     }
 }
 
@@ -250,6 +261,51 @@ mod tests {
             assert_eq!(rt; station.put(piece), answer);
             assert_eq!(rt; station.sent(), sent);
             assert_eq!(rt; station.calls(), calls);
+        }
+        Ok(())
+    }
+
+    #[test]
+    fn serves_a_file(rt: HostRuntime) -> Result<(), Fail> {
+        let alloc = rt.alloc();
+        let octets = b"abc".to_vec(alloc)?;
+        let mut station = MemStation::new(alloc, octets, vec![in alloc; 2, 4]?, 9, 9)?;
+        let mut into = [0; 2];
+        assert_eq!(rt; station.len(), Ok(3));
+        assert_eq!(rt; station.write_at(2, b"de"), Ok(()));
+        assert_eq!(rt; station.sync(), Err(Failed));
+        assert_eq!(rt; station.read_at(1, &mut into), Ok(()));
+        assert_eq!(rt; into, *b"bd");
+        assert_eq!(rt; station.write_at(0, b"ABC"), Err(Failed));
+        assert_eq!(rt; station.file(), b"Abde".as_slice());
+        assert_eq!(rt; (station.faults, station.put_faults), (2, 0));
+        Ok(())
+    }
+
+    #[test]
+    fn tells_what_a_crash_leaves(rt: HostRuntime) -> Result<(), Fail> {
+        let alloc = rt.alloc();
+        let octets = b"abcdef".to_vec(alloc)?;
+        let mut station = MemStation::new(alloc, octets, vec![in alloc; 4]?, 9, 99)?;
+        let _ = station.write_at(2, b"XY");
+        let _ = station.sync();
+        let _ = station.write_at(5, b"123");
+        let _ = station.put(b"out");
+        let _ = station.write_at(0, b"QRST");
+        let rows: [(u64, [&[u8]; 3]); 6] = [
+            (0, [b"abcdef", b"abXYef", b"ab..ef"]),
+            (1, [b"abcdef", b"abXYef", b"ab..ef"]),
+            (2, [b"abXYef", b"abXYe123", b"abXYe..."]),
+            (3, [b"abXYef", b"abXYe123", b"abXYe..."]),
+            (4, [b"abXYef", b"QRXYe123", b"..XYe..."]),
+            (5, [b"abXYef", b"QRXYe123", b"..XYe..."]),
+        ];
+        for (call, left) in rows {
+            assert!(rt; call <= station.calls());
+            for (pick, octets) in [Pick::Old, Pick::New, Pick::Torn(b'.')].iter().zip(left) {
+                let image = station.image(alloc, call, *pick)?;
+                assert_eq!(rt; image.as_slice(), octets, "{pick:?} at {call}");
+            }
         }
         Ok(())
     }

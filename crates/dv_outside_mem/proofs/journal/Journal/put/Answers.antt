@@ -1,9 +1,9 @@
 -- The front of the octets is sent.
-use Rattle.std.proofs.Common.{◌≡◌, ◌∙◌, ◌+◌, ◌≤◌, ℕ, length, take, ap, refl, sym, arith, length-take, length-append}
+use Rattle.std.proofs.Common.{◌≡◌, ◌∙◌, ◌+◌, length, take, ap, refl, sym, arith, length-take, length-append}
 use Rattle.std.proofs.lemmas.List.{take_all}
 use Rattle.std.proofs.lemmas.Result.{on_ok_weaker}
 use Rattle.dv_outside_mem.specs.declared.made.Made.TheVariants.{Put}
-use Rattle.dv_outside_mem.proofs.JournalLemmas.{stands_on, put_reads, put_sent, put_sends, put_joins, test_of_le}
+use Rattle.dv_outside_mem.proofs.JournalLemmas.{stands_on, put_reads, put_sent, put_joins, test_of_le}
 use Rattle.dv_outside_mem.proofs.journal.Journal.put.Goals as goal
 
 pub invariant_of-self : goal.invariant_of-self

@@ -1,5 +1,5 @@
 -- The front of the octets is written.
-use Rattle.std.proofs.Common.{◌≡◌, ◌∙◌, ◌+◌, ◌-◌, ◌≤◌, ℕ, length, take, ap, refl, sym, arith, length-take, length-append}
+use Rattle.std.proofs.Common.{◌≡◌, ◌∙◌, ◌+◌, ◌-◌, length, take, ap, sym, arith, length-take, length-append}
 use Rattle.std.proofs.lemmas.List.{take_all}
 use Rattle.std.proofs.lemmas.Result.{on_ok_weaker}
 use Rattle.dv_outside_mem.specs.declared.made.Made.TheVariants.{Write}
