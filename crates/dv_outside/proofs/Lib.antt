@@ -1,2 +1,4 @@
 pub mod Written
 pub mod Short
+pub mod Moments
+pub mod Counting

@@ -3,3 +3,4 @@ pub mod Source
 pub mod Shelf
 pub mod Clock
 pub mod Station
+pub mod Releases

@@ -1,3 +1,5 @@
 pub mod SourceLemmas
 pub mod ClockLemmas
-pub mod SentLemmas
+pub mod JournalLemmas
+pub mod StationLemmas
+pub mod ImageLemmas

@@ -1,5 +1,5 @@
 -- How a station in memory counts what its calls use.
-use Rattle.std.specs.Prelude.{◌≡◌, ◌⊎◌, ◌+◌, ◌<◌, ℕ}
+use Rattle.std.specs.Prelude.{◌≡◌, ◌⊎◌, ◌+◌, ◌<◌, ℕ, List, [], ◌∷◌, Option, Some, None}
 use Rattle.dv_outside.specs.Station.{Amount, Within}
 
 -- One of the numbers is past the room.
@@ -10,3 +10,8 @@ Past room used = (room.calls < used.calls) ⊎ (room.octets < used.octets)
 pub record CountsCall (room : Amount) (n : ℕ) (old new : Amount) : Type 0 where
   pub within : Within old room → new ≡ record { calls = old.calls + 1; octets = old.octets + n }
   pub past : Past room old → new ≡ old
+
+-- A station in which no call is to fail is sure of its room.
+abbrev pub sure_of : List ℕ → Amount → Option Amount
+sure_of [] room = Some room
+sure_of (number ∷ failing) room = None

@@ -3,7 +3,11 @@ pub mod Source
 pub mod Clock
 pub mod Amount
 pub mod Meter
-pub mod Sent
+pub mod Over
+pub mod Replay
+pub mod Reads
+pub mod Image
+pub mod Journal
 pub mod MemShelf
 pub mod MemStation
 pub mod MemDiag

@@ -60,7 +60,6 @@ impl Clock for MemClock {
     fn now(&mut self) -> Result<u64, Failed>
         // The trait's.
         ensures content { Tells (Some (first_answers self.old.answers self.old.given)) (Some (first_answers self.new.answers self.new.given)) result }
-        ensures tells { is_some (Some (first_answers self.new.answers self.new.given)) ≡ is_some (Some (first_answers self.old.answers self.old.given)) }
         ensures cause { HasCause self.old.plan.faults self.new.plan.faults result }
 
         // Which calls fail, and which moment comes.

@@ -18,6 +18,9 @@
 
 mod clock;
 mod diag;
+mod image;
+mod journal;
+mod made;
 mod meter;
 mod plan;
 mod shelf;
@@ -27,6 +30,7 @@ mod tape;
 
 pub use clock::MemClock;
 pub use diag::MemDiag;
+pub use image::Pick;
 pub use shelf::MemShelf;
 pub use source::MemSource;
 pub use station::MemStation;

@@ -1,8 +1,8 @@
 //! How many calls a station may serve, and how many octets they may be handed.
 ghost use Rattle.std.specs.Prelude.{◌≡◌, ◌↔◌, ◌+◌, ◌^◌, ◌<◌, ◌≤◌, IsTrue, Contains};
-ghost use Rattle.dv_outside.specs.Station.{Amount, Within};
+ghost use Rattle.dv_outside.specs.Station.{Amount, Within, Adds};
 ghost use Rattle.dv_outside_mem.specs.Amount.{Past, CountsCall};
-ghost use Rattle.dv_outside_mem.specs.Meter.{MeterState};
+ghost use Rattle.dv_outside_mem.specs.Meter.{MeterState, IsServed};
 
 use std::marker::Model;
 
@@ -66,11 +66,14 @@ impl Meter {
     pub fn enter(&mut self, len: usize) -> Turn
         requires { len < 2 ^ 63 }
         ensures counts { CountsCall self.old.room len self.old.used self.new.used }
+        ensures adds { Adds 1 len self.old.used self.new.used }
         ensures failing { self.new.failing ≡ self.old.failing }
         ensures room { self.new.room ≡ self.old.room }
         ensures past { result ≡ Turn.Past → Past self.old.room self.new.used }
-        ensures fails { result ≡ Turn.Fails → Within self.new.used self.old.room × Contains self.old.failing self.old.used.calls }
-        ensures works { result ≡ Turn.Works → Within self.new.used self.old.room × (¬ Contains self.old.failing self.old.used.calls) }
+        ensures fails { result ≡ Turn.Fails →
+            IsServed len self.old self.new × Contains self.old.failing self.old.used.calls }
+        ensures works { result ≡ Turn.Works →
+            IsServed len self.old self.new × (¬ Contains self.old.failing self.old.used.calls) }
     {
         if !self.is_within() {
             return Turn::Past;

@@ -38,8 +38,8 @@ impl Shelf for MemShelf {
     fn read(&mut self, alloc: Global, name: &str, limit: u64) -> Result<Vec<u8>, ShelfRefusal>
         // The trait's.
         ensures short { IfOk result (λ octets. length octets.items ≤ limit) }
-        ensures octets { IfSome (Some (files_of self.old)) (λ file. IfOk result (λ octets. file name.now ≡ Some octets.items)) }
-        ensures too_long { IfSome (Some (files_of self.old)) (λ file. result ≡ Err ShelfRefusal.TooLong → IsLongerThan limit (file name.now)) }
+        ensures octets { IfOk result (λ octets. files_of self.old name.now ≡ Some octets.items) }
+        ensures too_long { result ≡ Err ShelfRefusal.TooLong → IsLongerThan limit (files_of self.old name.now) }
         ensures files { files_of self.new ≡ files_of self.old }
         ensures later { (plan_of self.old).faults ≤ (plan_of self.new).faults }
         ensures failed { result ≡ Err ShelfRefusal.Failed → Rose (plan_of self.old).faults (plan_of self.new).faults }

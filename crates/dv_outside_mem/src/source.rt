@@ -97,7 +97,6 @@ impl Source for MemSource {
         requires { 0 < length into.old }
         ensures bound { IfOk result (λ n. n ≤ length into.old) }
         ensures content { Takes (Some self.old.left) (Some self.new.left) into.new result }
-        ensures tells { is_some (Some self.new.left) ≡ is_some (Some self.old.left) }
         ensures ended { self.new.ended ≡ is_end result }
         ensures cause { HasCause self.old.plan.faults self.new.plan.faults result }
 

@@ -1,13 +1,17 @@
-//! Lists that grow within the room that they have. No call here takes memory.
-ghost use Rattle.std.specs.Prelude.{◌≡◌, ◌+◌, ◌<◌, ◌≤◌, ◌++◌, ◌∷◌, [], length, vec_len, vec_capacity};
+//! Lists that grow within the room that they have.
+ghost use Rattle.std.specs.Prelude.{◌≡◌, ◌+◌, ◌<◌, ◌≤◌, ◌++◌, ◌∷◌, [], length, vec_len, vec_capacity, OnOk, IsOk};
+ghost use Rattle.dv_outside_mem.specs.Over.{over};
 
-/// Puts an item behind the others.
-pub fn keep(items: &mut Vec<usize>, item: usize)
-    requires { vec_len items.old < vec_capacity items.old }
-    ensures items { items.new.items ≡ items.old.items ++ item ∷ [] }
-    ensures capacity { vec_capacity items.old ≤ vec_capacity items.new }
+use crate::made::Made;
+use std::alloc::AllocError;
+
+/// Puts a call behind the others.
+pub fn keep(log: &mut Vec<Made>, call: Made)
+    requires { vec_len log.old < vec_capacity log.old }
+    ensures items { log.new.items ≡ log.old.items ++ call ∷ [] }
+    ensures capacity { vec_capacity log.old ≤ vec_capacity log.new }
 {
-    let _ = items.push(item);
+    let _ = log.push(call);
 }
 
 /// Puts octets behind the others.
@@ -17,4 +21,26 @@ pub fn add(octets: &mut Vec<u8>, more: &[u8])
     ensures capacity { vec_capacity octets.old ≤ vec_capacity octets.new }
 {
     let _ = octets.extend_from_slice(more);
+}
+
+/// Writes octets over a file, and past its end. It takes memory only where its room is too small.
+pub fn lay(file: &mut Vec<u8>, place: usize, octets: &[u8]) -> Result<(), AllocError>
+    requires { place ≤ vec_len file.old }
+    ensures items { OnOk result (file.new.items ≡ over file.old.items place octets.now) }
+    ensures room { place + length octets.now ≤ vec_capacity file.old → IsOk result }
+    ensures capacity { vec_capacity file.old ≤ vec_capacity file.new }
+{
+    let inside = octets.len().min(file.len() - place);
+    file[place..place + inside].copy_from_slice(&octets[..inside]);
+    file.extend_from_slice(&octets[inside..])
+}
+
+/// Writes octets over a file, and past its end.
+pub fn overwrite(file: &mut Vec<u8>, place: usize, octets: &[u8])
+    requires within { place ≤ vec_len file.old }
+    requires room { place + length octets.now ≤ vec_capacity file.old }
+    ensures items { file.new.items ≡ over file.old.items place octets.now }
+    ensures capacity { vec_capacity file.old ≤ vec_capacity file.new }
+{
+    let _ = lay(file, place, octets);
 }
