@@ -7,10 +7,10 @@ use Rattle.dv_notary.specs.Tool.{put_result}
 pub put_done : {T E : Type 0} (x : T) (octets request : List ℕ) (old new : Content) → octets ≡ request
     → Puts {T = T} {E = E} octets (Ok x) old new → Puts request (put_result 0) old new
 put_done x octets request old new same put =
-    subst (λ (o : List ℕ). Puts o (put_result 0) old new) same (record { keeps = put.keeps; sending = put.sending; whole = put.whole })
+    subst (λ (o : List ℕ). Puts o (put_result 0) old new) same (record { keeps = put.keeps; reads = put.reads; images = put.images; sending = put.sending; whole = put.whole })
 
 -- a put that failed
 pub put_cut : {T E : Type 0} (e : E) (octets request : List ℕ) (old new : Content) → octets ≡ request
     → Puts {T = T} {E = E} octets (Err e) old new → Puts request (put_result 5) old new
 put_cut e octets request old new same put =
-    subst (λ (o : List ℕ). Puts o (put_result 5) old new) same (record { keeps = put.keeps; sending = put.sending; whole = tt })
+    subst (λ (o : List ℕ). Puts o (put_result 5) old new) same (record { keeps = put.keeps; reads = put.reads; images = put.images; sending = put.sending; whole = tt })

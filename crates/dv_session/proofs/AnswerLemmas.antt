@@ -7,7 +7,8 @@ use Rattle.std.specs.declared.alloc.Global.{Global}
 use Rattle.dv_outside.specs.Station.{Content, Puts}
 use Rattle.dv_session.specs.Feeding.{octets_of}
 use Rattle.dv_session.specs.Serving.{SendsAll, SendsFront}
-use Rattle.dv_session.proofs.PutsLemmas.{puts_then, sent_after}
+use Rattle.dv_outside.proofs.Moments.{sent_after}
+use Rattle.dv_session.proofs.PutsLemmas.{puts_then, puts_ok, puts_err}
 use Rattle.dv_session.specs.Answers.{IsAnswer, Answers}
 
 -- the first request behind those that were answered has an answer
@@ -51,7 +52,7 @@ pub sends_next : {T E : Type 0} (x : T) (answers : List (List ℕ)) (octets piec
 sends_next {T = T} {E = E} x answers octets piece a b c one same two =
     let both = puts_then tt (Ok x) (concat answers) piece a b c one (subst (λ (o : List ℕ). Puts {T = T} {E = E} o (Ok x) b c) same two) in
     subst (λ (o : List ℕ). Puts {T = Unit {0}} {E = Unit {0}} o (Ok tt) a c) (sym (concat-push answers piece))
-    (record { keeps = both.keeps; sending = both.sending; whole = both.whole })
+    (puts_ok x tt (concat answers ++ piece) a c both)
 
 -- the put of the next answer failed
 pub sends_front : {T E : Type 0} (e : E) (requests answers : List (List ℕ)) (octets piece : List ℕ) (a b c : Content) → SendsAll answers a b → octets ≡ piece
@@ -66,5 +67,5 @@ sends_front {T = T} {E = E} e requests answers octets piece a b c one same cut i
       count = last.0;
       within = last.1;
       sent = last.2 ∙ ap (λ (l : List ℕ). l ++ take last.0 piece) one.whole;
-      puts = record { keeps = both.keeps; sending = both.sending; whole = tt };
+      puts = puts_err e tt (concat answers ++ piece) a c both;
     }
