@@ -26,16 +26,25 @@ as_type octets type other content fits is same =
 pub read_failure : (octets type content : List ℕ) (bit : ℕ) → Fits content_info 32 (info_of type content) → octets ≡ spelling content_info (info_of type content)
     → IsOnly octets (info_of type content) → HasTypeFailure type bit → HasFailure octets bit
 read_failure octets type content bit fits is only by_type = ⊎_elim
-    (λ known. inl (⊎_elim
-    (λ request. inl (as_type octets type request_data_type content fits is request))
-    (λ signed. inr (as_type octets type signed_data_type content fits is signed)) known.0, known.1))
-    (λ other. inr ((λ message. ⊎_elim
-    (λ request. other.0 (same_type octets type request_data_type content only request))
-    (λ signed. other.1 (same_type octets type signed_data_type content only signed)) message), other.2))
+    (λ known. inl (
+      ⊎_elim
+          (λ request. inl (as_type octets type request_data_type content fits is request))
+          (λ signed. inr (as_type octets type signed_data_type content fits is signed)) known.0,
+      known.1,
+    ))
+    (λ other. inr (
+      (λ message. ⊎_elim
+          (λ request. other.0 (same_type octets type request_data_type content only request))
+          (λ signed. other.1 (same_type octets type signed_data_type content only signed)) message),
+      other.2,
+    ))
     by_type
 
 -- octets that spell no ContentInfo are no message
 pub unread_failure : (octets : List ℕ) → ((v : ValueOf content_info) → Fits content_info 32 v → octets ≡ spelling content_info v → ⊥) → HasFailure octets 5
-unread_failure octets none = inr ((λ message. ⊎_elim
-    (λ request. none (info_of request_data_type request.0) request.1 request.2)
-    (λ signed. none (info_of signed_data_type signed.0) signed.1 signed.2) message), refl)
+unread_failure octets none = inr (
+  (λ message. ⊎_elim
+      (λ request. none (info_of request_data_type request.0) request.1 request.2)
+      (λ signed. none (info_of signed_data_type signed.0) signed.1 signed.2) message),
+  refl,
+)

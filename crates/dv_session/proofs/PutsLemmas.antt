@@ -20,9 +20,10 @@ puts_none x a = record {
 images_now : {T E : Type 0} (r : Result T E) (octets : List ℕ) (a b : Content) → Puts octets r a b → (i : List ℕ) → b.image b.moment i ↔ a.image a.moment i
 images_now r octets a b put i = ⊎_elim
     (λ le.
-    let same : b.moment ≡ a.moment = omega (arith, le, put.keeps.later) in
-    ((λ at. put.keeps.images a.moment i (omega arith) (subst (λ m. b.image m i) same at)),
-    (λ at. subst (λ m. b.image m i) (sym same) (put.keeps.kept a.moment i (omega arith) at))))
+    let same : b.moment ≡ a.moment = omega (arith, le, put.keeps.later) in (
+      (λ at. put.keeps.images a.moment i (omega arith) (subst (λ m. b.image m i) same at)),
+      (λ at. subst (λ m. b.image m i) (sym same) (put.keeps.kept a.moment i (omega arith) at)),
+    ))
     (λ lt. put.images b.moment lt (omega arith) i)
     (le_or_lt b.moment a.moment)
 
@@ -49,9 +50,11 @@ puts_then x r xs ys a b c one two = record {
       let at = one.sending m lt early in
       (at.0, omega (arith, at.1, length-append xs ys), two.keeps.sent m early ∙ at.2 ∙ ap (λ (l : List ℕ). a.sent a.moment ++ l) (sym (take-append-le at.0 xs ys at.1))))
       (λ late.
-      let at = two.sending m late le in
-      (length xs + at.0, omega (arith, at.1, length-append xs ys),
-      at.2 ∙ ap (λ (l : List ℕ). l ++ take at.0 ys) one.whole ∙ append_assoc (a.sent a.moment) xs (take at.0 ys) ∙ ap (λ (l : List ℕ). a.sent a.moment ++ l) (sym (take-append-add xs ys at.0))))
+      let at = two.sending m late le in (
+        length xs + at.0,
+        omega (arith, at.1, length-append xs ys),
+        at.2 ∙ ap (λ (l : List ℕ). l ++ take at.0 ys) one.whole ∙ append_assoc (a.sent a.moment) xs (take at.0 ys) ∙ ap (λ (l : List ℕ). a.sent a.moment ++ l) (sym (take-append-add xs ys at.0)),
+      ))
       (le_or_lt m b.moment);
   whole = whole_then r (a.sent a.moment) xs ys (b.sent b.moment) (c.sent c.moment) one.whole two.whole;
 }
