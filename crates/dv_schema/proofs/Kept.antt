@@ -1,16 +1,16 @@
 -- A value that is known to have a spelling, without one being named, is read again.
-use Rattle.std.proofs.Common.{◌≡◌, ℕ, ◌+◌, ◌<◌, ◌≤◌, true, Option, Result, Ok, List, ◌++◌, length, subst, sym, ap, arith}
+use Rattle.std.proofs.Common.{◌≡◌, ℕ, ◌+◌, ◌<◌, ◌≤◌, ◌/◌, ◌%◌, true, eqb, eq-eqb, refl, Option, Result, Ok, List, ◌++◌, length, subst, sym, ap, arith}
 use Rattle.std.proofs.lemmas.List.{length-append}
 use Rattle.std.proofs.Math.Nat.{ℕ_set}
 use Rattle.std.specs.Coded.{le_prop}
-use Rattle.std.proofs.Math.Logic.{∥∥₁_elim}
+use Rattle.std.proofs.Math.Logic.{∥∥₁_elim, ∥∥₁_map}
 use mathlib.Core.Sum.{⊎_set}
 use mathlib.Core.List.{is_set as List_set}
 use Rattle.dv_schema.specs.declared.refusal.Der.{Der}
 use Rattle.dv_schema.specs.declared.refusal.Why.{Why}
 use Rattle.dv_schema.specs.Octets.{IsBytes}
 use Rattle.dv_schema.specs.Schema.{Schema, node, tagged, whole, raw, such, choice, Body, plain, unsigned, kept, done, field, optional, keyed, sequence_of, set_of, distinct_of, ValueOf, FieldsOf, spelling, key_place}
-use Rattle.dv_schema.specs.Fits.{Fits}
+use Rattle.dv_schema.specs.Fits.{Fits, FieldsFit, inner}
 use Rattle.dv_schema.specs.Clear.{is_clear}
 use Rattle.dv_schema.specs.Reading.{Spot, read}
 use Rattle.dv_schema.specs.Decodes.{HasSpelling, ReadsBack}
@@ -62,6 +62,13 @@ kept_value s p x bytes levels room e =
 pub kept_short : (s : Schema) (v : ValueOf s) → ∥ HasSpelling s v ∥₁ → length (spelling s v) < 18446744073709551616
 unfolding HasSpelling
 kept_short s v h = ∥∥₁_elim h (hlevel le_prop) (λ f. f.1)
+
+-- it has one under another constructed tag too
+pub kept_under : (tag tag' : ℕ) (b : Body) (v : FieldsOf b) → tag / 32 % 2 ≡ 1 → tag' / 32 % 2 ≡ 1 → ∥ HasSpelling (node tag b) v ∥₁ → ∥ HasSpelling (node tag' b) v ∥₁
+unfolding HasSpelling
+kept_under tag tag' b v e e' h =
+    let same : inner tag 31 ≡ inner tag' 31 = rw (eq-eqb _ _ e, eq-eqb _ _ e') refl in
+    ∥∥₁_map h (λ f. ((f.0.0, f.0.1, subst (λ (n : ℕ). FieldsFit b n v) same f.0.2), f.1))
 
 -- and is read from it, whatever follows
 pub kept_again : (s : Schema) (v : ValueOf s) (p : Spot) (rest : List ℕ) → is_clear s ≡ true → ∥ HasSpelling s v ∥₁ → p.levels ≡ 32 → p.rest ≡ spelling s v ++ rest

@@ -1,0 +1,15 @@
+//! Identifiers, algorithms, names, policies and extensions.
+#![tactic(auto)]
+
+mod algorithm;
+mod extension;
+mod general;
+pub mod laws;
+mod name;
+mod policy;
+
+pub use algorithm::{AlgId, DigestInfo, Oid};
+pub use extension::Extension;
+pub use general::GeneralName;
+pub use name::Name;
+pub use policy::PolicyInfo;
