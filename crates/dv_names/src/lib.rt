@@ -3,6 +3,7 @@
 
 mod algorithm;
 mod extension;
+mod extensions;
 mod general;
 pub mod laws;
 mod name;
@@ -10,6 +11,9 @@ mod policy;
 
 pub use algorithm::{AlgId, DigestInfo, Oid};
 pub use extension::Extension;
+pub use extensions::{
+    Known, NoneKnown, check_extensions, read_extensions, read_optional_extensions,
+};
 pub use general::GeneralName;
 pub use name::Name;
 pub use policy::PolicyInfo;
