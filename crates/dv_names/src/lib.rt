@@ -2,14 +2,17 @@
 #![tactic(auto)]
 
 mod algorithm;
+mod digest;
 mod extension;
 mod extensions;
 mod general;
+pub mod identifiers;
 pub mod laws;
 mod name;
 mod policy;
 
 pub use algorithm::{AlgId, DigestInfo, Oid};
+pub use digest::{DigestKind, digest_kind};
 pub use extension::Extension;
 pub use extensions::{
     Known, NoneKnown, check_extensions, read_extensions, read_optional_extensions,
