@@ -1,2 +1,3 @@
 pub mod FailLemmas
+pub mod Kept
 pub mod StatusLemmas
