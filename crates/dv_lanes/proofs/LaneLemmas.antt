@@ -32,6 +32,7 @@ Rotates k x = (j : ℕ) → j < 4
     (zip2 (λ x n. x * 2 ^ n % 2 ^ 32) x ((32 - k) ∷ (32 - k) ∷ (32 - k) ∷ (32 - k) ∷ []))) j
     ≡ rotate_right w32 (slice_index x j) k
 
+-- two shifts and an or rotate each of four words
 pub shifts_rotate : (k : ℕ) → 0 < k → k < 32 → (x : List ℕ) → length x ≡ 4 → Rotates k x
 shifts_rotate k low high =
     let right : k % 32 ≡ k = omega arith in
@@ -51,6 +52,7 @@ window_lane-set [] k j x = refl
 window_lane-set (y ∷ w) zero j x = refl
 window_lane-set (y ∷ w) (suc k) j x = ap (λ r. slice_index y j ∷ r) (window_lane-set w k j x)
 
+-- a window keeps its length
 pub length-window_lane : (w : List (List ℕ)) (j : ℕ) → length (window_lane j w) ≡ length w
 length-window_lane [] j = refl
 length-window_lane (x ∷ w) j = omega (arith, length-window_lane w j)
