@@ -3,7 +3,7 @@ use Rattle.std.proofs.Common.{◌≡◌, ℕ, ◌-◌, ◌<◌, List, [], ◌∷
 use Rattle.sha2.specs.Sha256.{sha256}
 use Rattle.sha2.proofs.Facts256.{length-sha256}
 use Rattle.dv_lmots.specs.Lmots.{HasOtsForm, candidate_of, chain, chain_end, chain_prefix, completed_value, digits, joined, key_from, key_of, id_and_number, ots_of, private_value, randomizer, randomizer_in, signed_value, value_in}
-use Rattle.dv_lmots.proofs.Chains.{chain_completed, length-chain_steps}
+use Rattle.dv_lmots.proofs.ChainSteps.{chain_completed, length-chain_steps}
 use Rattle.dv_lmots.proofs.Joined.{joined_same, length-joined, slice_range-joined, slice_range-middle}
 use Rattle.dv_lmots.proofs.Octets.{digit_le}
 
@@ -54,6 +54,6 @@ candidate_of-ots_of id seed q m =
     λ i lt.
     let value : value_in sig i ≡ y i = rw start at (slice_range-joined (kind ++ c) y (length-signed_value id seed q ds) 34 i lt) in
     ap (λ (x : List ℕ). chain id q i x (slice_index ds i) 255) value
-    ∙ chain_completed id q i (private_value id seed q i) (slice_index ds i) 255 (digit_le id q c m i) in
+    ∙ chain_completed id q i (private_value id seed q i) 0 (slice_index ds i) 255 (omega arith) (digit_le id q c m i) in
     ap (λ (d : List ℕ). key_from id q (completed_value id q (digits id q d m) sig)) same_c
     ∙ key_from_same id q (completed_value id q ds sig) (chain_end id seed q) each

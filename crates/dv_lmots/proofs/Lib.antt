@@ -1,6 +1,9 @@
+mod Blocks
 pub mod Buffers
-mod Chains
+mod ChainSteps
 mod Completed
+mod Elements
+mod Going
 pub mod Joined
 mod Messages
 mod Octets

@@ -1,6 +1,6 @@
 //! One chain of a one-time key (RFC 8554 4.3), walked in place.
 
-ghost use Rattle.std.specs.Prelude.{◌≡◌, ℕ, ◌-◌, ◌≤◌, List, length, take, drop};
+ghost use Rattle.std.specs.Prelude.{◌≡◌, ℕ, ◌-◌, ◌≤◌, take, drop};
 ghost use Rattle.dv_lmots.specs.Lmots.{chain_prefix, chain_step, chain_steps, private_value};
 
 use byteorder::{BigEndian, ByteOrder};
@@ -68,10 +68,11 @@ impl Chain {
     }
 
     /// The value that the chain has come to.
-    pub(crate) fn value(&self) -> &[u8]
-        ensures value { result.now ≡ self.now.value }
-        ensures len { length result.now ≡ 32 }
+    pub(crate) fn value(&self) -> [u8; 32]
+        ensures { result ≡ self.now.value }
     {
-        &self.message[VALUE_AT..]
+        let mut value = [0; 32];
+        value.copy_from_slice(&self.message[VALUE_AT..]);
+        value
     }
 }

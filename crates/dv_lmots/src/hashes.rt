@@ -1,8 +1,8 @@
 //! What a leaf hashes beside its chains: the message that is signed and the public key.
 
-ghost use Rattle.std.specs.Prelude.{◌≡◌, ◌++◌, [], ◌∷◌};
+ghost use Rattle.std.specs.Prelude.{◌≡◌, ◌++◌, [], ◌∷◌, slice_index_or};
 ghost use Rattle.sha2.specs.Hashers.{Holds256};
-ghost use Rattle.dv_lmots.specs.Lmots.{checksum, digits, id_and_number, message_hash, randomizer};
+ghost use Rattle.dv_lmots.specs.Lmots.{checksum, digits, id_and_number, key_from, message_hash, randomizer};
 
 use crate::CHAINS;
 use crate::chain::Chain;
@@ -21,9 +21,7 @@ const RANDOMIZER_PLACE: u16 = 0xfffd;
 pub(crate) fn randomizer(id: &[u8; 16], seed: &[u8; 32], q: u32) -> [u8; 32]
     ensures { result ≡ randomizer id.now seed.now q }
 {
-    let mut c = [0; 32];
-    c.copy_from_slice(Chain::at_private_value(id, seed, q, RANDOMIZER_PLACE).value());
-    c
+    Chain::at_private_value(id, seed, q, RANDOMIZER_PLACE).value()
 }
 
 // A hasher of what the messages of the leaf `q` begin with, and then the mark.
@@ -42,6 +40,17 @@ pub(crate) fn key_hasher(id: &[u8; 16], q: u32) -> Sha256
     ensures { Holds256 result (id_and_number id.now q ++ 0x80 ∷ 0x80 ∷ []) }
 {
     leaf_hasher(id, q, &D_PBLC)
+}
+
+/// The public key of the leaf `q` whose chains end so.
+pub(crate) fn key_from(id: &[u8; 16], q: u32, ends: &[[u8; 32]; CHAINS]) -> [u8; 32]
+    ensures { result ≡ key_from id.now q (λ i. slice_index_or ends.now i []) }
+{
+    let mut hasher = key_hasher(id, q);
+    for end in ends {
+        hasher.update(end);
+    }
+    hasher.finalize()
 }
 
 // The hash of the message under the randomizer `c` (RFC 8554 4.5).

@@ -7,21 +7,26 @@
 //! `candidate` the public key that a signature of a message gives, which is the signer's where the
 //! signature is good. Each answers exactly what the standard's formulas say, as `specs/Lmots.antt`
 //! has them, for every number `q`. None takes memory, and each makes one compression of SHA-256 for
-//! a step of a chain.
+//! a step of a chain. Chains go four at a time, a chain in each lane of `dv_lanes`; `plain` has the
+//! same calls under the same clauses as the definition's plain program, one chain after another.
 //!
 //! The standard leaves the randomizer of a signature to the signer. Here it is derived from the
 //! seed, so that signing is a function: two signatures of one message at one leaf are the same
 //! octets. Nothing here counts leaves: that a leaf signs one message only is for the caller to see
 //! to.
 //!
-//! It stands on `sha2` for SHA-256 and on `byteorder` for the numbers in its buffers.
+//! It stands on `sha2` for SHA-256, on `dv_lanes` for its compression in four lanes, and on
+//! `byteorder` for the numbers in its buffers.
 #![tactic(auto)]
 
+pub use lanes::{candidate, public_of, sign_ots};
 pub use law::signature_gives_key;
-pub use plain::{candidate, public_of, sign_ots};
 
 mod chain;
+mod chains;
+mod four;
 mod hashes;
+mod lanes;
 mod law;
 pub mod plain;
 mod signature;

@@ -16,7 +16,7 @@ pub fn public_of(id: &[u8; 16], seed: &[u8; 32], q: u32) -> [u8; 32]
     for i in 0..CHAINS {
         let mut chain = Chain::at_private_value(id, seed, q, i as u16);
         chain.walk(0, 255);
-        hasher.update(chain.value());
+        hasher.update(&chain.value());
     }
     hasher.finalize()
 }
@@ -32,7 +32,7 @@ pub fn sign_ots(id: &[u8; 16], seed: &[u8; 32], q: u32, message: &[u8]) -> [u8; 
     for i in 0..CHAINS {
         let mut chain = Chain::at_private_value(id, seed, q, i as u16);
         chain.walk(0, digits[i]);
-        octets[36 + 32 * i..68 + 32 * i].copy_from_slice(chain.value());
+        octets[36 + 32 * i..68 + 32 * i].copy_from_slice(&chain.value());
     }
     octets
 }
@@ -53,7 +53,7 @@ pub fn candidate(id: &[u8; 16], q: u32, message: &[u8], signature: &[u8]) -> Opt
         let value = signature::hash_at(signature, 36 + 32 * i);
         let mut chain = Chain::new(id, q, i as u16, &value);
         chain.walk(digits[i], 255);
-        hasher.update(chain.value());
+        hasher.update(&chain.value());
     }
     Some(hasher.finalize())
 }

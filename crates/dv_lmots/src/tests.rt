@@ -2,7 +2,7 @@
 // (RFC 8554, Appendix F), and the message is the one that is signed there at the leaf 4. The other
 // values are those of a program over another implementation of SHA-256 (bench/rfc8554.py).
 
-use crate::{SIGNATURE_LEN, candidate, public_of, sign_ots};
+use crate::{SIGNATURE_LEN, candidate, plain, public_of, sign_ots};
 use sha2::{Digest, Sha256};
 
 const ID: [u8; 16] = [
@@ -100,4 +100,16 @@ fn other_lengths_and_types_give_no_key(rt: HostRuntime) {
     assert!(rt; candidate(&ID, 4, MESSAGE, &octets).is_none());
     octets[3] = 3;
     assert!(rt; candidate(&ID, 4, MESSAGE, &octets[..SIGNATURE_LEN]).is_none());
+}
+
+#[test]
+fn chains_in_fours_give_what_the_plain_program_gives(rt: HostRuntime) {
+    for q in 0..6 {
+        let message = &MESSAGE[..20 * q as usize];
+        let signature = sign_ots(&ID, &SEED, q, message);
+        assert!(rt; signature == plain::sign_ots(&ID, &SEED, q, message));
+        assert_eq!(rt; public_of(&ID, &SEED, q), plain::public_of(&ID, &SEED, q));
+        let key = candidate(&ID, q, message, &signature);
+        assert_eq!(rt; key, plain::candidate(&ID, q, message, &signature));
+    }
 }

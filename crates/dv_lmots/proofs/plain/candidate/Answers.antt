@@ -11,7 +11,7 @@ pub loop-i-preserved : goal.loop-i-preserved
 loop-i-preserved c =
     let prefix = id_and_number c.args.id.now c.args.q ++ 0x80 ∷ 0x80 ∷ [] in
     subst (λ (m : List ℕ). Holds256 c.update.new.self m)
-    (joined_next prefix (completed_value c.args.id.now c.args.q c.digits-digits.result c.args.signature.now) c.loop-i.i _ (c.value.ensures.value ∙ rw (c.walk.ensures, c.new-chain.ensures, c.hash_at-value.ensures) refl))
+    (joined_next prefix (completed_value c.args.id.now c.args.q c.digits-digits.result c.args.signature.now) c.loop-i.i _ (c.value.ensures ∙ rw (c.walk.ensures, c.new-chain.ensures, c.hash_at-value.ensures) refl))
     (c.update.ensures _ c.loop-i.invariant)
 
 pub returns-clause-value : goal.returns-clause-value

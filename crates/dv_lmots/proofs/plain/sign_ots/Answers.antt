@@ -11,7 +11,7 @@ pub loop-i-preserved : goal.loop-i-preserved
 loop-i-preserved c = (
   search (rules, overwrites),
   value_written _ c.loop-i.octets _ _ c.loop-i.i _ c.loop-i.invariant.1 c.loop-i.invariant.0 (omega arith)
-      (c.copy_from_slice.ensures.after ∙ c.value.ensures.value ∙ rw (c.walk.ensures, c.at_private_value-chain.ensures) refl) (search rules),
+      (c.copy_from_slice.ensures.after ∙ c.value.ensures ∙ rw (c.walk.ensures, c.at_private_value-chain.ensures) refl) (search rules),
 )
 
 pub returns : goal.returns

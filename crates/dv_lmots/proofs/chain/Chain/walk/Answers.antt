@@ -1,5 +1,5 @@
 use Rattle.std.proofs.Common.{arith}
-use Rattle.dv_lmots.proofs.Chains.{chain_steps_next, chain_steps_none}
+use Rattle.dv_lmots.proofs.ChainSteps.{chain_steps_next, chain_steps_none}
 use Rattle.dv_lmots.proofs.chain.Chain.walk.Goals as goal
 
 pub loop-j-init : goal.loop-j-init
