@@ -1,0 +1,6 @@
+pub mod Layout
+pub mod Refusals
+pub mod Safe
+pub mod Steps
+pub mod SigningKey
+pub mod State
