@@ -10,6 +10,7 @@
 #![tactic(auto)]
 
 mod fail;
+pub mod failure;
 pub mod laws;
 mod status;
 

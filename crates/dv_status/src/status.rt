@@ -177,3 +177,6 @@ fn read_fail(c: &mut Cursor<'_>) -> Result<Option<FailBits>, Der>
         }
     }
 }
+
+#[cfg(test)]
+mod tests;
