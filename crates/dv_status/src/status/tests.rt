@@ -6,16 +6,25 @@ use std::test::Fail;
 
 /// The status at the front of the octets, how long its texts are, and whether it has the failure bit.
 fn decoded(octets: &[u8], bit: u8) -> Result<(u8, Option<usize>, bool), Der> {
-    let read = StatusInfo::decode(&mut Cursor::new(octets))?;
-    let text = match read.text {
+    let mut cursor = Cursor::new(octets);
+    match StatusInfo::decode(&mut cursor) {
+        Ok(read) => Ok((read.status, text_len(&read), has_bit(&read, bit))),
+        Err(refusal) => Err(refusal),
+    }
+}
+
+fn text_len(read: &StatusInfo<'_>) -> Option<usize> {
+    match read.text {
         None => None,
         Some(text) => Some(text.len()),
-    };
-    let has = match read.fail {
+    }
+}
+
+fn has_bit(read: &StatusInfo<'_>, bit: u8) -> bool {
+    match read.fail {
         None => false,
         Some(fail) => fail.has(bit),
-    };
-    Ok((read.status, text, has))
+    }
 }
 
 fn put_status(info: &StatusInfo<'_>, octets: &mut [u8]) -> usize {
