@@ -28,4 +28,4 @@ pub use members::{
     read_optional_list, read_optional_set, read_set,
 };
 pub use rules::same;
-pub use writer::{Writer, header_len, number_len};
+pub use writer::{Writer, header_len, number_len, value_len};

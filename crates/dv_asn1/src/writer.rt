@@ -1,6 +1,6 @@
 //! A writer of DER values into a slice.
 
-ghost use Rattle.std.specs.Prelude.{◌≡◌, ◌≤◌, ◌<◌, ◌+◌, ◌∷◌, [], ◌++◌, take, length, slice_index};
+ghost use Rattle.std.specs.Prelude.{◌≡◌, ◌≤◌, ◌<◌, ◌+◌, ◌^◌, ◌∷◌, [], ◌++◌, take, length, slice_index};
 ghost use Rattle.std.specs.Int.Digits.{digits_of};
 ghost use Rattle.dv_schema.specs.Tlv.{tlv, length_octets, integer_octets};
 
@@ -130,6 +130,15 @@ pub fn header_len(contents: usize) -> usize
         0..128 => 2,
         _ => 2 + digit_count(contents as u64) as usize,
     }
+}
+
+/// How many octets a value with contents of this length has: its tag, the least length octets, and the contents.
+pub fn value_len(contents: usize) -> usize
+    requires { contents < 2 ^ 63 }
+    ensures octets { result ≡ 1 + length (length_octets contents) + contents }
+    ensures few { result ≤ contents + 10 }
+{
+    header_len(contents) + contents
 }
 
 /// How many contents octets the INTEGER of this number has.

@@ -15,3 +15,5 @@ pub mod Defaults
 pub mod Distinct
 pub mod Refusals
 pub mod Kept
+pub mod KeptUnder
+pub mod Lists

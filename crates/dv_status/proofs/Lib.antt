@@ -1,3 +1,2 @@
 pub mod FailLemmas
-pub mod Kept
 pub mod StatusLemmas

@@ -28,16 +28,34 @@ fn any_values(rt: HostRuntime) {
 }
 
 #[test]
-fn refused_headers(rt: HostRuntime) {
-    let values: [(&[u8], u64, Why); 14] = [
+fn values_that_end_early(rt: HostRuntime) {
+    let values: [(&[u8], u64, Why); 5] = [
         (&[], 0, Why::End),
         (&[0x30], 0, Why::End),
         (&[0x30, 0x82, 0x01], 0, Why::End),
         (&[0x30, 0x03, 0x05, 0x00], 0, Why::End),
         (&[0x30, 0x03, 0x02, 0x02, 0x01], 2, Why::End),
+    ];
+    for (octets, place, why) in values {
+        assert_eq!(rt; skipped(octets), Err(Der::new(place, why)), "at {octets:?}");
+    }
+}
+
+#[test]
+fn refused_tags(rt: HostRuntime) {
+    let values: [(&[u8], u64, Why); 3] = [
         (&[0x1F, 0x00], 0, Why::Tag),
         (&[0x10, 0x00], 0, Why::Tag),
         (&[0x11, 0x00], 0, Why::Tag),
+    ];
+    for (octets, place, why) in values {
+        assert_eq!(rt; skipped(octets), Err(Der::new(place, why)), "at {octets:?}");
+    }
+}
+
+#[test]
+fn refused_lengths(rt: HostRuntime) {
+    let values: [(&[u8], u64, Why); 6] = [
         (&[0x30, 0x80], 0, Why::Length),
         (&[0x30, 0x81, 0x7F], 0, Why::Length),
         (&[0x30, 0x84, 0x00, 0x00, 0x00, 0x05], 0, Why::Length),
@@ -51,17 +69,35 @@ fn refused_headers(rt: HostRuntime) {
 }
 
 #[test]
-fn refused_contents(rt: HostRuntime) {
-    let values: [(&[u8], u64, Why); 12] = [
+fn refused_numbers(rt: HostRuntime) {
+    let values: [(&[u8], u64, Why); 5] = [
         (&[0x01, 0x01, 0x01], 0, Why::Value),
         (&[0x01, 0x00], 0, Why::Value),
         (&[0x02, 0x00], 0, Why::Value),
         (&[0x02, 0x02, 0x00, 0x7F], 0, Why::Value),
         (&[0x0A, 0x02, 0xFF, 0x80], 0, Why::Value),
+    ];
+    for (octets, place, why) in values {
+        assert_eq!(rt; skipped(octets), Err(Der::new(place, why)), "at {octets:?}");
+    }
+}
+
+#[test]
+fn refused_bits_and_nulls(rt: HostRuntime) {
+    let values: [(&[u8], u64, Why); 4] = [
         (&[0x03, 0x00], 0, Why::Value),
         (&[0x03, 0x01, 0x01], 0, Why::Value),
         (&[0x03, 0x02, 0x01, 0x01], 0, Why::Value),
         (&[0x05, 0x01, 0x00], 0, Why::Value),
+    ];
+    for (octets, place, why) in values {
+        assert_eq!(rt; skipped(octets), Err(Der::new(place, why)), "at {octets:?}");
+    }
+}
+
+#[test]
+fn refused_identifiers(rt: HostRuntime) {
+    let values: [(&[u8], u64, Why); 3] = [
         (&[0x06, 0x00], 0, Why::Value),
         (&[0x06, 0x02, 0x80, 0x01], 0, Why::Value),
         (&[0x30, 0x05, 0x05, 0x00, 0x06, 0x01, 0x80], 4, Why::Value),
@@ -152,12 +188,16 @@ const BAD_VALUE: Der = Der {
 };
 
 #[test]
-fn numbers_and_booleans(rt: HostRuntime) {
+fn numbers_and_integers(rt: HostRuntime) {
     assert_eq!(rt; number(&[0x0A, 0x01, 0x02]), Ok(2));
     assert_eq!(rt; number(&[0x0A, 0x01, 0x03]), Err(BAD_VALUE));
     assert_eq!(rt; number(&[0x0A, 0x01, 0xFF]), Err(BAD_VALUE));
     assert_eq!(rt; integer(&[0x02, 0x02, 0xFF, 0x7F]), Ok(2));
     assert_eq!(rt; integer(&[0x02, 0x03, 0x01, 0x00, 0x00]), Err(BAD_VALUE));
+}
+
+#[test]
+fn booleans_and_flags(rt: HostRuntime) {
     assert_eq!(rt; boolean(&[0x01, 0x01, 0x00]), Ok(false));
     assert_eq!(rt; boolean(&[0x01, 0x01, 0x01]), Err(BAD_VALUE));
     assert_eq!(rt; flag(&[0x01, 0x01, 0xFF]), Ok(false));
@@ -166,12 +206,16 @@ fn numbers_and_booleans(rt: HostRuntime) {
 }
 
 #[test]
-fn strings_and_ends(rt: HostRuntime) {
+fn strings(rt: HostRuntime) {
     assert_eq!(rt; identifier(&[0x06, 0x01, 0x2A]), Ok(1));
     assert_eq!(rt; identifier(&[0x06, 0x01, 0x80]), Err(BAD_VALUE));
     assert_eq!(rt; octet_string_len(&[0x04, 0x01, 0x61]), Ok(1));
     assert_eq!(rt; unused_bits(&[0x03, 0x02, 0x04, 0xF0]), Ok(4));
     assert_eq!(rt; unused_bits(&[0x03, 0x02, 0x04, 0xF8]), Err(BAD_VALUE));
+}
+
+#[test]
+fn ends(rt: HostRuntime) {
     assert_eq!(rt; optional_len(&[]), Ok(None));
     assert_eq!(rt; optional_len(&[0x05, 0x00]), Ok(Some(2)));
     assert_eq!(rt; finished(&[]), Ok(()));

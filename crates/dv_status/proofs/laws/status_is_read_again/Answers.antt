@@ -1,6 +1,6 @@
 use Rattle.std.proofs.Common.{refl}
 use Rattle.dv_schema.proofs.Kept.{reads_back}
-use Rattle.dv_status.proofs.Kept.{kept_under}
+use Rattle.dv_schema.proofs.KeptUnder.{kept_under}
 use Rattle.dv_status.specs.Types.{status_fields, status_info}
 use Rattle.dv_status.specs.Views.{view_status}
 use Rattle.dv_status.proofs.laws.status_is_read_again.Goals as goal

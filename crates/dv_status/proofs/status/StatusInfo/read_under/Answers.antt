@@ -5,7 +5,7 @@ use Rattle.std.specs.Option.{option_copied}
 use Rattle.dv_schema.specs.Schema.{ValueOf}
 use Rattle.dv_schema.specs.Reading.{Spot, read}
 use Rattle.dv_schema.proofs.Kept.{kept_value}
-use Rattle.dv_status.proofs.Kept.{kept_under}
+use Rattle.dv_schema.proofs.KeptUnder.{kept_under}
 use Rattle.dv_status.specs.Fail.{fail_octets}
 use Rattle.dv_status.specs.Types.{status_fields, status_info}
 use Rattle.dv_status.proofs.status.StatusInfo.read_under.Goals as goal

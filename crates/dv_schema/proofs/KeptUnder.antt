@@ -1,8 +1,8 @@
 -- A value that is known to have a spelling under one constructed tag has one under another.
-use Rattle.std.proofs.Common.{◌≡◌, ℕ, ◌<◌, ◌/◌, ◌%◌, true, eqb, eq-eqb, refl, length, subst}
+use Rattle.std.proofs.Common.{◌≡◌, ℕ, ◌/◌, ◌%◌, eq-eqb, refl, subst}
 use Rattle.std.proofs.Math.Logic.{∥∥₁_map}
-use Rattle.dv_schema.specs.Schema.{node, Body, FieldsOf, spelling}
-use Rattle.dv_schema.specs.Fits.{Fits, FieldsFit, inner}
+use Rattle.dv_schema.specs.Schema.{node, Body, FieldsOf}
+use Rattle.dv_schema.specs.Fits.{FieldsFit, inner}
 use Rattle.dv_schema.specs.Decodes.{HasSpelling}
 
 pub kept_under : (tag tag' : ℕ) (b : Body) (v : FieldsOf b) → tag / 32 % 2 ≡ 1 → tag' / 32 % 2 ≡ 1 → ∥ HasSpelling (node tag b) v ∥₁ → ∥ HasSpelling (node tag' b) v ∥₁
