@@ -6,7 +6,7 @@ ghost use Rattle.dv_schema.specs.Tlv.{tlv, length_octets, integer_octets};
 ghost use Rattle.dv_asn1.specs.Writing.{room_of, Writes};
 ghost use Rattle.dv_cert.specs.Notice.{one_bit, rejection_with, error_notice, notice_of, response_data_type};
 
-use dv_asn1::{Writer, header_len, number_len};
+use dv_asn1::{Writer, number_len, value_len};
 
 /// The contents octets of id-ct-DVCSResponseData, 1.2.840.113549.1.9.16.1.8.
 const RESPONSE_DATA_TYPE: [u8; 11] = [42, 134, 72, 134, 247, 13, 1, 9, 16, 1, 8];
@@ -38,15 +38,6 @@ fn write_one_bit(out: &mut Writer<'_>, bit: u8)
         2 => out.tlv(BIT_STRING, &[unused, 0, 0, last]),
         _ => out.tlv(BIT_STRING, &[unused, 0, 0, 0, last]),
     }
-}
-
-/// How many octets a value with so many contents octets has: its tag, its length octets, and the contents.
-fn value_len(contents: usize) -> usize
-    requires { contents < 2 ^ 33 }
-    ensures octets { result ≡ 1 + length (length_octets contents) + contents }
-    ensures few { result ≤ contents + 10 }
-{
-    header_len(contents) + contents
 }
 
 /// How many contents octets the status of a notice has.

@@ -1,8 +1,12 @@
 -- The types of RFC 5652, one line each.
-use Rattle.std.specs.Prelude.{ℕ, ◌+◌, List, ◌∷◌, ◌++◌, length}
+use Rattle.std.specs.Prelude.{ℕ, ◌+◌, List, [], ◌∷◌, ◌++◌, length}
 use Rattle.dv_schema.specs.Tlv.{tlv, length_octets}
 use Rattle.dv_schema.specs.Schema.{Schema, node, done, field}
 use Rattle.dv_schema.specs.Types.{explicit, any, oid}
+
+-- the contents octets of id-signedData, 1.2.840.113549.1.7.2 (RFC 5652 5.1)
+abbrev pub signed_data_type : List ℕ
+signed_data_type = 42 ∷ 134 ∷ 72 ∷ 134 ∷ 247 ∷ 13 ∷ 1 ∷ 7 ∷ 2 ∷ []
 
 -- ContentInfo (RFC 5652 3): SEQUENCE { contentType OID, content any <A0 explicit> }
 abbrev pub content_info : Schema

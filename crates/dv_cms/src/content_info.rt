@@ -4,11 +4,14 @@ ghost use Rattle.std.specs.Prelude.{◌≡◌, ◌≤◌, ◌<◌, ◌+◌, ◌^
 ghost use Rattle.dv_schema.specs.Schema.{spelling};
 ghost use Rattle.dv_schema.specs.Reading.{read, read_all};
 ghost use Rattle.dv_schema.specs.Answers.{Gives, Reads};
-ghost use Rattle.dv_schema.specs.Decodes.{DecodesAll, HasSpelling};
+ghost use Rattle.dv_schema.specs.Decodes.{Decodes, DecodesAll, HasSpelling};
 ghost use Rattle.dv_asn1.specs.Writing.{room_of, Writes};
 ghost use Rattle.dv_cms.specs.Types.{content_info, content_header};
 
 use dv_asn1::{Cursor, Der, Writer, header_len};
+
+/// The contents octets of id-signedData, 1.2.840.113549.1.7.2 (RFC 5652 5.1).
+pub const SIGNED_DATA_TYPE: [u8; 9] = [42, 134, 72, 134, 247, 13, 1, 7, 2];
 
 /// A ContentInfo (RFC 5652 3): the contents octets of the content type, and the content as one whole value.
 #[derive(Clone, Copy, Debug)]
@@ -29,6 +32,14 @@ impl<'a> ContentInfo<'a> {
         let mut c = Cursor::new(bytes);
         let _octets = c.fork();
         ContentInfo::read_whole(&mut c)
+    }
+
+    /// The ContentInfo at the cursor, whatever follows it. After a refusal the cursor is where it was.
+    pub fn decode_next(c: &mut Cursor<'a>) -> Result<ContentInfo<'a>, Der>
+        ensures { Decodes content_info view_content_info result c.old c.new }
+    {
+        let _octets = c.fork();
+        ContentInfo::read(c)
     }
 
     /// Reads a ContentInfo, and that nothing is left behind it.

@@ -11,4 +11,4 @@
 mod content_info;
 pub mod laws;
 
-pub use content_info::{ContentInfo, content_header_len, write_content_header};
+pub use content_info::{ContentInfo, SIGNED_DATA_TYPE, content_header_len, write_content_header};
