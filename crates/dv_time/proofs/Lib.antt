@@ -1,0 +1,4 @@
+pub mod CalendarLemmas
+pub mod CrateDates
+pub mod TextLemmas
+pub mod TimeLemmas

@@ -1,0 +1,4 @@
+pub mod Calendar
+pub mod Text
+pub mod Types
+pub mod Views
