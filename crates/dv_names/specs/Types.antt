@@ -1,5 +1,5 @@
 -- The types of identifiers, algorithms and names, one line each (RFC 5280 4.1.1.2, 4.1.2.4, 4.2; RFC 5652 10.1).
-use Rattle.std.specs.Prelude.{ℕ, Bool, true, false, ◌==◌, ◌/◌, ◌%◌, List, [], ◌∷◌, if◌then◌else◌}
+use Rattle.std.specs.Prelude.{ℕ, true, false, ◌==◌, ◌/◌, ◌%◌, List, [], ◌∷◌, if◌then◌else◌}
 use Rattle.dv_schema.specs.Schema.{Schema, node, tagged, raw, Body, kept, done, field, optional, sequence_of, set_of, distinct_of}
 use Rattle.dv_schema.specs.Reading.{first_contents}
 use Rattle.dv_schema.specs.Types.{oid, octet_string, any, flag, free, list_of}

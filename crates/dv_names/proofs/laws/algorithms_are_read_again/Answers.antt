@@ -1,4 +1,4 @@
-use Rattle.std.proofs.Common.{refl, true, ap, sym, ◌∙◌}
+use Rattle.std.proofs.Common.{refl}
 use Rattle.dv_schema.proofs.Kept.{reads_back}
 use Rattle.dv_schema.specs.Types.{oid}
 use Rattle.dv_names.specs.Types.{algorithm_identifier, digest_info}

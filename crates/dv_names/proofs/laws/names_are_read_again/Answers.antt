@@ -1,4 +1,4 @@
-use Rattle.std.proofs.Common.{refl, true, ap, sym, ◌∙◌}
+use Rattle.std.proofs.Common.{refl}
 use Rattle.dv_schema.proofs.Kept.{reads_back}
 use Rattle.dv_names.specs.Types.{name, general_name}
 use Rattle.dv_names.specs.Views.{view_general, view_name}

@@ -1,6 +1,6 @@
-use Rattle.std.proofs.Common.{refl, true, ap, sym, ◌∙◌}
+use Rattle.std.proofs.Common.{refl}
 use Rattle.dv_schema.proofs.Kept.{reads_back}
-use Rattle.dv_names.proofs.Kept.{kept_under}
+use Rattle.dv_schema.proofs.KeptUnder.{kept_under}
 use Rattle.dv_names.specs.Types.{extension, policy_fields, policy_information}
 use Rattle.dv_names.specs.Views.{view_extension, view_policy}
 use Rattle.dv_names.proofs.laws.policies_and_extensions_are_read_again.Goals as goal

@@ -1,8 +1,7 @@
-use Rattle.std.proofs.Common.{◌≡◌, ℕ, sym, ap, subst, ◌∙◌, refl, true}
-use Rattle.std.specs.Prelude.{IsOkAnd}
+use Rattle.std.proofs.Common.{ℕ, sym, ap, ◌∙◌, refl, true}
 use Rattle.std.proofs.lemmas.Result.{err_from_is_err_and}
 use Rattle.dv_schema.specs.Schema.{set_of}
-use Rattle.dv_schema.specs.Reading.{Spot, Item, item_at, is_tag_of, read_fields}
+use Rattle.dv_schema.specs.Reading.{Item, item_at, is_tag_of, read_fields}
 use Rattle.dv_schema.specs.Answers.{skipped}
 use Rattle.dv_schema.proofs.Nodes.{node_passes, node_fault}
 use Rattle.dv_names.specs.Types.{named_value}

@@ -5,7 +5,7 @@ use Rattle.dv_names.specs.Types.{policy_fields, policy_information}
 use Rattle.dv_schema.specs.Schema.{ValueOf}
 use Rattle.dv_schema.specs.Reading.{Spot, read}
 use Rattle.dv_schema.proofs.Kept.{kept_value}
-use Rattle.dv_names.proofs.Kept.{kept_under}
+use Rattle.dv_schema.proofs.KeptUnder.{kept_under}
 use Rattle.dv_names.proofs.policy.PolicyInfo.read_under.Goals as goal
 
 pub invariant_of-result : goal.invariant_of-result
