@@ -1,1 +1,9 @@
-pub mod Lengths
+pub mod ChainLemmas
+pub mod DataLemmas
+pub mod FitLemmas
+pub mod MadeLemmas
+pub mod MemberLemmas
+pub mod MessageLemmas
+pub mod StrictLemmas
+pub mod TargetLemmas
+pub mod WellLemmas

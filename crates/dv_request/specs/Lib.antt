@@ -1,1 +1,14 @@
+pub mod DataView
+pub mod DraftView
+pub mod InfoView
+pub mod Information
+pub mod Links
+pub mod Made
+pub mod Materials
+pub mod Members
+pub mod PartViews
 pub mod Request
+pub mod RequestView
+pub mod TargetView
+pub mod Targets
+pub mod Types
