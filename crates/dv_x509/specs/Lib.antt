@@ -1,0 +1,10 @@
+pub mod Extensions
+pub mod Fields
+pub mod Judged
+pub mod Members
+pub mod Own
+pub mod TbsView
+pub mod Types
+pub mod Uses
+pub mod View
+pub mod WholeView
