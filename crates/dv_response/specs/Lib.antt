@@ -1,0 +1,4 @@
+pub mod Parts
+pub mod ResponseView
+pub mod Types
+pub mod Views
