@@ -1,11 +1,11 @@
 -- Answers to requests, one after another.
 use Rattle.std.proofs.Common.{◌≡◌, ◌∙◌, ℕ, zero, suc, ◌+◌, ◌<◌, ◌≤◌, List, [], ◌∷◌, ◌++◌, length, take, drop, refl, sym, ap, subst, arith}
-use Rattle.std.specs.List.{concat}
+use Rattle.std.specs.List.{concat, AllByRecursion}
 use Rattle.std.proofs.Common.{get_or, map, append_assoc, Vec, Ok, Err}
 use Rattle.std.proofs.lemmas.List.{append-nil}
 use Rattle.std.specs.declared.alloc.Global.{Global}
 use Rattle.dv_outside.specs.Station.{Content, Puts}
-use Rattle.dv_session.specs.Feeding.{octets_of}
+use Rattle.dv_asn1.specs.Lists.{lists_of}
 use Rattle.dv_session.specs.Serving.{SendsAll, SendsFront}
 use Rattle.dv_outside.proofs.Moments.{sent_after}
 use Rattle.dv_session.proofs.PutsLemmas.{puts_then, puts_ok, puts_err}
@@ -37,10 +37,17 @@ answers_one requests answers request piece rest next is =
     subst (λ (l : List (List ℕ)). Answers l (piece ∷ [])) (sym next) (is, tt)
 
 -- what stands from an index on begins with the item there
-pub drop_item : (xs : List (Vec ℕ Global)) (i : ℕ) (x : Vec ℕ Global) → i < length xs → x ≡ get_or xs i x → drop i (octets_of xs) ≡ x.items ∷ drop (suc i) (octets_of xs)
+pub drop_item : (xs : List (Vec ℕ Global)) (i : ℕ) (x : Vec ℕ Global) → i < length xs → x ≡ get_or xs i x → drop i (lists_of xs) ≡ x.items ∷ drop (suc i) (lists_of xs)
 drop_item [] i x lt is = absurd (omega arith)
-drop_item (y ∷ xs) zero x lt is = ap (λ (v : Vec ℕ Global). v.items ∷ octets_of xs) (sym is)
+drop_item (y ∷ xs) zero x lt is = ap (λ (v : Vec ℕ Global). v.items ∷ lists_of xs) (sym is)
 drop_item (y ∷ xs) (suc i) x lt is = drop_item xs i x (omega arith) is
+
+-- what holds of each member holds of the one at an index
+pub holds_at : (P : List ℕ → Type 0) (ys : List (List ℕ)) (i : ℕ) (y : List ℕ) (rest : List (List ℕ)) → AllByRecursion P ys → drop i ys ≡ y ∷ rest → P y
+holds_at P [] zero y rest all is = absurd cc
+holds_at P [] (suc i) y rest all is = absurd cc
+holds_at P (x ∷ ys) zero y rest all is = let same : x ≡ y = cc in subst P same all.0
+holds_at P (x ∷ ys) (suc i) y rest all is = holds_at P ys i y rest all.1 is
 
 concat-push : (xs : List (List ℕ)) (y : List ℕ) → concat (xs ++ y ∷ []) ≡ concat xs ++ y
 concat-push [] y = append-nil y

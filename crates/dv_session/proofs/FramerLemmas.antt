@@ -12,7 +12,8 @@ use Rattle.dv_session.specs.declared.framer.Split.{Split}
 use Rattle.dv_session.specs.Headers.{Tells}
 use Rattle.dv_session.specs.Requests.{IsRequest, HasNoHeader}
 use Rattle.dv_session.specs.Progress.{Progress, stop_of}
-use Rattle.dv_session.specs.Feeding.{octets_of, Feeds}
+use Rattle.dv_asn1.specs.Lists.{lists_of}
+use Rattle.dv_session.specs.Feeding.{Feeds}
 use Rattle.dv_session.specs.Splitting.{IsBegun, progress_of, IsKept, left_behind, rest_of, IsSplit, Splits, Ends}
 use Rattle.dv_session.proofs.FrontLemmas.{same_answer}
 use Rattle.dv_session.proofs.RequestLemmas.{nothing_begun, each_more, open_rest}
@@ -28,9 +29,9 @@ pub record IsCut (octets start : List ℕ) (requests : List (List ℕ)) (begun a
 
 -- one vector more
 octets_push : (vectors : List (Vec ℕ Global)) (vector : Vec ℕ Global) (octets : List ℕ) → vector.items ≡ octets
-    → octets_of (vectors ++ vector ∷ []) ≡ octets_of vectors ++ octets ∷ []
+    → lists_of (vectors ++ vector ∷ []) ≡ lists_of vectors ++ octets ∷ []
 octets_push vectors vector octets is =
-    map-append (λ (v : Vec ℕ Global). v.items) vectors (vector ∷ []) ∙ ap (λ (l : List ℕ). octets_of vectors ++ l ∷ []) is
+    map-append (λ (v : Vec ℕ Global). v.items) vectors (vector ∷ []) ∙ ap (λ (l : List ℕ). lists_of vectors ++ l ∷ []) is
 
 -- one request more
 cut_push : (octets start begun ahead request behind : List ℕ) (requests : List (List ℕ)) → IsCut octets start requests begun ahead
@@ -53,19 +54,19 @@ cut_push octets start begun ahead request behind requests cut is parts =
 
 -- a turn of the loop
 pub cut_more : (octets start begun ahead last behind : List ℕ) (end : ℕ) (vectors more : List (Vec ℕ Global)) (vector : Vec ℕ Global)
-    → IsCut octets start (octets_of vectors) begun ahead → Ends begun ahead end → last ≡ take end ahead → behind ≡ drop end ahead
-    → vector.items ≡ begun ++ last → more ≡ vectors ++ vector ∷ [] → IsCut octets start (octets_of more) [] behind
+    → IsCut octets start (lists_of vectors) begun ahead → Ends begun ahead end → last ≡ take end ahead → behind ≡ drop end ahead
+    → vector.items ≡ begun ++ last → more ≡ vectors ++ vector ∷ [] → IsCut octets start (lists_of more) [] behind
 cut_more octets start begun ahead last behind end vectors more vector cut ends is_last is_behind is pushed =
     let request = begun ++ take end ahead in
     let items : vector.items ≡ request = is ∙ ap (λ (l : List ℕ). begun ++ l) is_last in
     let parts : begun ++ ahead ≡ request ++ behind =
     ap (λ (l : List ℕ). begun ++ l) (sym (take-append-drop end ahead)) ∙ sym (append_assoc begun (take end ahead) (drop end ahead))
     ∙ ap (λ (l : List ℕ). request ++ l) (sym is_behind) in
-    subst (λ (rs : List (List ℕ)). IsCut octets start rs [] behind) (sym (ap octets_of pushed ∙ octets_push vectors vector request items))
-    (cut_push octets start begun ahead request behind (octets_of vectors) cut ends.request parts)
+    subst (λ (rs : List (List ℕ)). IsCut octets start rs [] behind) (sym (ap lists_of pushed ∙ octets_push vectors vector request items))
+    (cut_push octets start begun ahead request behind (lists_of vectors) cut ends.request parts)
 
 -- its end, where no request ends any more
-pub cut_splits : (start piece begun : List ℕ) (split : Split) (said : Front) → IsCut (start ++ piece) start (octets_of split.requests.items) begun split.ahead.now
+pub cut_splits : (start piece begun : List ℕ) (split : Split) (said : Front) → IsCut (start ++ piece) start (lists_of split.requests.items) begun split.ahead.now
     → split.behind ≡ length begun + length split.ahead.now → (IsTrue split.stops → said ≡ Bad) → (said ≡ Bad → IsTrue split.stops)
     → Tells (begun ++ split.ahead.now) said → HasNoHeader (begun ++ split.ahead.now) ⊎ IsBegun (begun ++ split.ahead.now) → Splits start piece split
 cut_splits start piece begun split said cut behind is_bad bad_is tells none =
@@ -95,7 +96,7 @@ framer_after framer piece split rest = record {
 
 -- each octet is counted, that of a request or one behind them
 pub octets_after : (framer : Inside) (piece : List ℕ) (split : Split) → IsKept framer → framer.stopped ≡ false → Splits framer.rest.items piece split
-    → framer.before + framer.behind + length piece ≡ framer.before + length (concat (octets_of split.requests.items)) + split.behind
+    → framer.before + framer.behind + length piece ≡ framer.before + length (concat (lists_of split.requests.items)) + split.behind
 octets_after framer piece split kept going splits =
     omega (
       arith,
@@ -103,7 +104,7 @@ octets_after framer piece split kept going splits =
       splits.behind,
       ap length splits.requests.whole,
       length-append framer.rest.items piece,
-      length-append (concat (octets_of split.requests.items)) (rest_of framer.rest.items split),
+      length-append (concat (lists_of split.requests.items)) (rest_of framer.rest.items split),
     )
 
 -- so the counts grow by the octets of the piece
@@ -129,10 +130,12 @@ pub after_feeds : (framer : Inside) (old : Progress) (piece : List ℕ) (split :
     → IsKept framer → framer.stopped ≡ false → Splits framer.rest.items piece split
     → rest.items ≡ (if split.stops then [] else rest_of framer.rest.items split)
     → stop ≡ stop_of (progress_of (framer_after framer piece split rest))
-    → Feeds old piece (record { requests = split.requests; stop = stop }) (progress_of (framer_after framer piece split rest))
-after_feeds framer old piece split rest stop seen kept going splits is stops =
+    → (requests : List (List ℕ)) → requests ≡ lists_of split.requests.items
+    → Feeds old piece (record { requests = requests; stop = stop }) (progress_of (framer_after framer piece split rest))
+after_feeds framer old piece split rest stop seen kept going splits is stops requests same =
     let new = progress_of (framer_after framer piece split rest) in
-    subst (λ (p : Progress). Feeds p piece (record { requests = split.requests; stop = stop }) new) seen (record {
+    let feeds : Feeds old piece (record { requests = lists_of split.requests.items; stop = stop }) new =
+    subst (λ (p : Progress). Feeds p piece (record { requests = lists_of split.requests.items; stop = stop }) new) seen (record {
       stopped = λ stopped. absurd (both_ways framer.stopped going stopped);
       reads = λ going'. (
         rest_of framer.rest.items split,
@@ -145,7 +148,8 @@ after_feeds framer old piece split rest stop seen kept going splits is stops =
         },
       );
       stop = stops;
-    })
+    }) in
+    subst (λ (l : List (List ℕ)). Feeds old piece (record { requests = l; stop = stop }) new) (sym same) feeds
 
 -- ---- a piece for which there was no memory
 

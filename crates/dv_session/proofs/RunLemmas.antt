@@ -12,7 +12,7 @@ use Rattle.dv_session.specs.declared.serving.End.{End}
 use Rattle.dv_session.specs.declared.serving.End.TheVariants.{Input, Read, Put, Memory, Refused, Limit}
 use Rattle.dv_session.specs.Requests.{Requests, HasNoHeader}
 use Rattle.dv_session.specs.Progress.{Progress, start, stop_of, Reads, IsAt}
-use Rattle.dv_session.specs.Feeding.{Feeds, requests_of, octets_of}
+use Rattle.dv_session.specs.Feeding.{Feeds, requests_of}
 use Rattle.dv_session.specs.Answers.{Answers}
 use Rattle.dv_session.specs.Serving.{Run, HasTaken, IsRun, IsAnswered, Ends, Sends, SendsAll, SendsFront, PutsAnswers, Serves}
 use Rattle.dv_session.proofs.RequestLemmas.{nothing_begun, begun_header}
@@ -251,9 +251,9 @@ serves_put end left left' left'' old new fed tells ended a b c taken piece going
     )
 
 -- the same answers, of a station that tells as much
-pub puts_same : (xs ys : List (Vec ℕ Global)) (r : Result (Unit {0}) End) (t u : Bool) (b c : Content) → xs ≡ ys → t ≡ u → PutsAnswers (octets_of xs) r t b c → PutsAnswers (octets_of ys) r u b c
+pub puts_same : (xs ys : List (List ℕ)) (r : Result (Unit {0}) End) (t u : Bool) (b c : Content) → xs ≡ ys → t ≡ u → PutsAnswers xs r t b c → PutsAnswers ys r u b c
 puts_same xs ys r t u b c same as_much puts =
-    subst (λ (v : Bool). PutsAnswers (octets_of ys) r v b c) as_much (subst (λ (zs : List (Vec ℕ Global)). PutsAnswers (octets_of zs) r t b c) same puts)
+    subst (λ (v : Bool). PutsAnswers ys r v b c) as_much (subst (λ (zs : List (List ℕ)). PutsAnswers zs r t b c) same puts)
 
 -- a stop is told exactly where the stream has stopped
 pub is_stop : (progress : Progress) (stop : Option ℕ) (some : Bool) → stop ≡ stop_of progress → some ≡ is_some stop → progress.stopped ≡ some

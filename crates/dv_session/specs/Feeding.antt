@@ -1,18 +1,13 @@
 -- What a piece of a stream gives.
-use Rattle.std.specs.Prelude.{◌≡◌, ◌+◌, ℕ, false, IsTrue, List, [], ◌++◌, length, map, Vec}
+use Rattle.std.specs.Prelude.{◌≡◌, ◌+◌, ℕ, false, IsTrue, List, [], ◌++◌, length}
 use Rattle.std.specs.List.{concat}
-use Rattle.std.specs.declared.alloc.Global.{Global}
 use Rattle.dv_session.specs.declared.framer.Fed.{Fed}
 use Rattle.dv_session.specs.Requests.{Requests}
 use Rattle.dv_session.specs.Progress.{Progress, stop_of, IsAt}
 
--- the octets of each vector
-abbrev pub octets_of : List (Vec ℕ Global) → List (List ℕ)
-octets_of vectors = map (λ vector. vector.items) vectors
-
 -- the requests that a piece gave
 abbrev pub requests_of : Fed → List (List ℕ)
-requests_of fed = octets_of fed.requests.items
+requests_of fed = fed.requests
 
 -- A piece of the stream came. Where the stream had stopped, it gives no request and is only counted. Else the octets after
 -- the last request and then those of the piece are the requests that it gives, and a rest.

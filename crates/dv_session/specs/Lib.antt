@@ -4,4 +4,5 @@ pub mod Progress
 pub mod Feeding
 pub mod Splitting
 pub mod Answers
+pub mod Refusals
 pub mod Serving

@@ -4,7 +4,7 @@ use Rattle.dv_session.specs.declared.framer.Framer.TheInside.{Inside}
 use Rattle.dv_session.specs.declared.framer.Split.{Split}
 use Rattle.dv_session.specs.Requests.{IsRequest, Requests, HasHeader, NeedsMore, HasNoHeader}
 use Rattle.dv_session.specs.Progress.{Progress}
-use Rattle.dv_session.specs.Feeding.{octets_of}
+use Rattle.dv_asn1.specs.Lists.{lists_of}
 
 -- a request has begun: the octets are less than a header, or fewer than their header says
 abbrev pub IsBegun : List ℕ → Type 0
@@ -31,11 +31,11 @@ left_behind (request ∷ requests) begun = []
 
 -- the octets that come after the requests of a split
 abbrev pub rest_of : List ℕ → Split → List ℕ
-rest_of begun split = left_behind (octets_of split.requests.items) begun ++ split.ahead.now
+rest_of begun split = left_behind (lists_of split.requests.items) begun ++ split.ahead.now
 
 -- these octets are the requests of the split, and then this rest
 pub record IsSplit (octets rest : List ℕ) (split : Split) : Type 0 where
-  pub requests : Requests octets (octets_of split.requests.items) rest
+  pub requests : Requests octets (lists_of split.requests.items) rest
   pub behind : split.behind ≡ length rest
   pub stops : IsTrue split.stops ↔ HasNoHeader rest
   pub goes_on : split.stops ≡ false → IsBegun rest

@@ -8,14 +8,15 @@ ghost use Rattle.dv_session.specs.Feeding.{requests_of, Feeds};
 ghost use Rattle.dv_session.specs.Splitting.{IsBegun, Ends, Splits, rest_of};
 
 use crate::front::{Front, joined_header};
+use dv_asn1::OctetLists;
 use std::alloc::{AllocError, Global};
 use std::marker::Model;
 
 /// What a piece of a stream gave.
-#[derive(Debug, PartialEq, Eq, Drop)]
+#[derive(Debug, Drop)]
 pub struct Fed {
     /// The requests that ended in the piece, in order.
-    pub requests: Vec<Vec<u8>>,
+    pub requests: OctetLists,
     /// Where the stream has stopped: the place in it, in octets, of the value that begins as no request does.
     pub stop: Option<u64>,
 }
@@ -79,7 +80,7 @@ impl Framer {
         if self.stopped {
             self.behind += piece.len() as u64;
             return Ok(Fed {
-                requests: Vec::new(alloc),
+                requests: OctetLists::new(Vec::new(alloc)),
                 stop: self.stop(),
             });
         }
@@ -90,7 +91,7 @@ impl Framer {
         self.before = fed - self.behind;
         self.stopped = split.stops;
         Ok(Fed {
-            requests: split.requests,
+            requests: OctetLists::new(split.requests),
             stop: self.stop(),
         })
     }

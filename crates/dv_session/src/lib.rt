@@ -1,16 +1,18 @@
-//! What a serving run makes of its input, request by request. So far: the splitting of a stream into requests.
+//! What a serving run makes of its input: a stream is split into requests, and each request gets its answer.
 //!
 //! What it is for: a server reads octets in pieces, which end anywhere. A [`Framer`] makes requests of them: SEQUENCE
 //! values of DER (X.690), one after another, each of at most [`REQUEST_LIMIT`] octets. [`header`] tells by the first
-//! octets how long a request is, before it is there.
+//! octets how long a request is, before it is there. [`serve`] reads, and puts the answer to each request.
 //!
 //! What it promises: the requests that a framer gives are those of the stream, each once, in order and whole, and no
 //! others. `Requests` in specs/Requests.antt says what the requests of a stream are, [`one_split`] that a stream has no
 //! other ones, and [`any_pieces`] that it doesn't matter how the stream is cut. Where octets begin no request the
 //! stream stops, and its place is told. A framer keeps fewer octets than a request may have, and none after a stop;
-//! want of memory leaves it as it was.
+//! want of memory leaves it as it was. The answer to a request is the notice of the first step that refuses it
+//! (`HasFailure` in specs/Answers.antt), with its transactionIdentifier once the request is read.
 //!
-//! What it stands on: `dv_schema`, for the octets of a length.
+//! What it stands on: `dv_request` and `dv_cms` for what a request says, `dv_cert` for notices, `dv_status` for the names
+//! of failures, and `dv_outside` for the input and the output.
 #![tactic(auto)]
 
 mod answer;

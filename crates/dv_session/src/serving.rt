@@ -2,7 +2,9 @@
 ghost use Rattle.std.specs.Prelude.{◌≡◌, ◌≢◌, ◌⊎◌, ◌<◌, ◌≤◌, [], IfOk, IfErr, IsTrue, length};
 ghost use Rattle.dv_outside.specs.Causes.{HasCause, Rose};
 ghost use Rattle.dv_outside.specs.Source.{is_end};
-ghost use Rattle.dv_session.specs.Feeding.{octets_of};
+ghost use Rattle.std.specs.List.{AllByRecursion};
+ghost use Rattle.dv_asn1.specs.Lists.{lists_of};
+ghost use Rattle.dv_session.specs.Requests.{IsRequest};
 ghost use Rattle.dv_session.specs.Serving.{HasTaken, read_octets, Serves, PutsAnswers};
 
 use crate::answer::answer;
@@ -35,7 +37,8 @@ pub enum End {
 
 /// Puts the answers to the requests, in order, up to the first that can't be put or for which there is no memory.
 fn put_answers<V: Station>(alloc: Global, requests: &[Vec<u8>], station: &mut V) -> Result<(), End>
-    ensures puts { PutsAnswers (octets_of requests.now) result (V.tells station.old) (V.content station.old) (V.content station.new) }
+    requires { AllByRecursion IsRequest (lists_of requests.now) }
+    ensures puts { PutsAnswers (lists_of requests.now) result (V.tells station.old) (V.content station.old) (V.content station.new) }
     ensures ends { IfErr result (λ end. (end ≡ End.Put) ⊎ (end ≡ End.Memory)) }
     ensures put_fault { result ≡ Err End.Put → Rose (V.counts station.old).put_faults (V.counts station.new).put_faults }
     ensures later { (V.counts station.old).put_faults ≤ (V.counts station.new).put_faults }
@@ -95,7 +98,7 @@ fn serve_by<S: Source, V: Station>(
             Ok(fed) => fed,
             Err(_) => return End::Memory,
         };
-        match put_answers(alloc, &fed.requests, station) {
+        match put_answers(alloc, fed.requests.as_slice(), station) {
             Ok(()) => {}
             Err(end) => return end,
         }

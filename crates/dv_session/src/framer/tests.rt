@@ -25,7 +25,7 @@ fn feed_more(
     ensures { OnOk result (framer.new.before + framer.new.behind
         ≡ framer.old.before + framer.old.behind + length piece.now) }
 {
-    for request in framer.feed(piece)?.requests {
+    for request in framer.feed(piece)?.requests.into_vec() {
         requests.push(request)?;
     }
     Ok(())
@@ -69,8 +69,8 @@ fn most_octets(rt: HostRuntime) -> Result<(), Fail> {
     request.resize(262_144, 0x61)?;
     let mut framer = Framer::new(rt.alloc());
     let fed = framer.feed(&request)?;
-    assert_eq!(rt; fed.requests.len(), 1);
-    assert!(rt; fed.requests[0] == request);
+    assert_eq!(rt; fed.requests.as_slice().len(), 1);
+    assert!(rt; fed.requests.as_slice()[0] == request);
     assert_eq!(rt; fed.stop, None);
     assert_eq!(rt; framer.rest(), 0);
     Ok(())
@@ -87,12 +87,24 @@ fn stops(rt: HostRuntime) -> Result<(), Fail> {
     ];
     for row in rows {
         let mut framer = Framer::new(rt.alloc());
-        assert_eq!(rt; framer.feed(&STREAM)?.requests.len(), 2, "{row:?}");
+        assert_eq!(rt;
+            framer.feed(&STREAM)?.requests.as_slice().len(),
+            2,
+            "{row:?}"
+        );
         let fed = framer.feed(&row)?;
-        assert_eq!(rt; (fed.requests.len(), fed.stop), (0, Some(55)), "{row:?}");
+        assert_eq!(rt;
+            (fed.requests.as_slice().len(), fed.stop),
+            (0, Some(55)),
+            "{row:?}"
+        );
         assert_eq!(rt; framer.rest(), 5, "{row:?}");
         let fed = framer.feed(&STREAM)?;
-        assert_eq!(rt; (fed.requests.len(), fed.stop), (0, Some(55)), "{row:?}");
+        assert_eq!(rt;
+            (fed.requests.as_slice().len(), fed.stop),
+            (0, Some(55)),
+            "{row:?}"
+        );
         assert_eq!(rt; framer.rest(), 60, "{row:?}");
     }
     Ok(())

@@ -2,7 +2,7 @@ use Rattle.std.proofs.Common.{rules, ◌≡◌, ◌+◌, ◌++◌, IsTrue, lengt
 use Rattle.std.specs.List.{concat}
 use Rattle.dv_session.specs.declared.front.Front.TheVariants.{Bad}
 use Rattle.dv_session.specs.declared.framer.Split.{Split}
-use Rattle.dv_session.specs.Feeding.{octets_of}
+use Rattle.dv_asn1.specs.Lists.{lists_of}
 use Rattle.dv_session.proofs.FramerLemmas.{cut_more, cut_splits}
 use Rattle.dv_session.proofs.framer.split_requests.Goals as goal
 
@@ -14,7 +14,7 @@ loop-end-preserved c =
 
 pub overflow_add-result : goal.overflow_add-result
 overflow_add-result c =
-    let cut = octets_of c.loop-end.requests.items in
+    let cut = lists_of c.loop-end.requests.items in
     omega (
       arith,
       ap length c.loop-end.invariant.whole,

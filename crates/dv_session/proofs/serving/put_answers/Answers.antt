@@ -3,8 +3,9 @@ use Rattle.std.proofs.Common.{Vec}
 use Rattle.std.specs.declared.alloc.Global.{Global}
 use Rattle.std.proofs.lemmas.List.{length-map}
 use Rattle.dv_session.specs.Answers.{IsAnswer}
-use Rattle.dv_session.specs.Feeding.{octets_of}
-use Rattle.dv_session.proofs.AnswerLemmas.{answers_next, answers_one, drop_item, sends_next, sends_front}
+use Rattle.dv_session.specs.Requests.{IsRequest}
+use Rattle.dv_asn1.specs.Lists.{lists_of}
+use Rattle.dv_session.proofs.AnswerLemmas.{answers_next, answers_one, drop_item, holds_at, sends_next, sends_front}
 use Rattle.dv_session.proofs.serving.put_answers.Goals as goal
 
 pub loop-request-preserved : goal.loop-request-preserved
@@ -12,7 +13,7 @@ loop-request-preserved g c =
     let so_far = c.loop-request.invariant.puts in
     let requests = c.args.requests.now in
     let item = drop_item requests c.loop-request.request-index c.request-item.result c.loop-request-test.true c.request-item.is in
-    let next = ap (λ (i : ℕ). drop i (octets_of requests)) so_far.2 ∙ item in
+    let next = ap (λ (i : ℕ). drop i (lists_of requests)) so_far.2 ∙ item in
     let is : IsAnswer c.request-item.result.items c.in-Ok.octets.items = subst (λ (o : List ℕ). IsAnswer o c.in-Ok.octets.items) c.deref.ensures.value c.in-Ok.ensures in
     record {
       tells = c.put.ensures.tells ∙ c.loop-request.invariant.tells;
@@ -36,11 +37,17 @@ returns-in-Err-clause-puts g c =
     let so_far = c.loop-request.invariant.puts in
     let requests = c.args.requests.now in
     let item = drop_item requests c.loop-request.request-index c.request-item.result c.loop-request-test.true c.request-item.is in
-    let next = ap (λ (i : ℕ). drop i (octets_of requests)) so_far.2 ∙ item in
+    let next = ap (λ (i : ℕ). drop i (lists_of requests)) so_far.2 ∙ item in
     let is : IsAnswer c.request-item.result.items c.in-Ok.octets.items = subst (λ (o : List ℕ). IsAnswer o c.in-Ok.octets.items) c.deref.ensures.value c.in-Ok.ensures in (
       so_far.0,
       so_far.1,
       (λ _. omega (arith, so_far.2, c.loop-request-test.true, length-map requests (λ (v : Vec ℕ Global). v.items))),
-      λ told. sends_front _ (octets_of requests) so_far.0 _ _ _ _ _ (so_far.3 told) c.deref-in-loop-request.ensures.value
-          (c.in-Err.ensures.content (c.loop-request.invariant.tells ∙ told)) (answers_one (octets_of requests) so_far.0 _ _ _ next is),
+      λ told. sends_front _ (lists_of requests) so_far.0 _ _ _ _ _ (so_far.3 told) c.deref-in-loop-request.ensures.value
+          (c.in-Err.ensures.content (c.loop-request.invariant.tells ∙ told)) (answers_one (lists_of requests) so_far.0 _ _ _ next is),
     )
+
+pub answer-requires : goal.answer-requires
+answer-requires g c =
+    let requests = c.args.requests.now in
+    let item = drop_item requests c.loop-request.request-index c.request-item.result c.loop-request-test.true c.request-item.is in
+    subst IsRequest (sym c.deref.ensures.value) (holds_at IsRequest (lists_of requests) c.loop-request.request-index c.request-item.result.items _ c.requires item)

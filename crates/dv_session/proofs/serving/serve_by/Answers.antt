@@ -2,6 +2,7 @@ use Rattle.std.proofs.Common.{◌≡◌, ◌≢◌, ◌≤◌, ◌<◌, ◌+◌,
 use Rattle.std.proofs.Common.{eqb, Ok, Err, ⊎_elim}
 use Rattle.std.proofs.lemmas.Bool.Decides.{eqb_tells}
 use Rattle.std.proofs.lemmas.List.{length-take, length-take-le}
+use Rattle.dv_asn1.specs.Lists.{lists_of}
 use Rattle.dv_session.specs.Serving.{HasTaken}
 use Rattle.dv_session.specs.Progress.{Progress, start}
 use Rattle.dv_session.proofs.RunLemmas.{Going, going_none, going_on, going_more, takes_none, takes_then, serves_input, serves_cut, serves_refused, serves_read, serves_limit, serves_memory, serves_put, puts_same, is_stop}
@@ -60,16 +61,16 @@ returns-in-Err-put_answers-clause-run g c =
     let piece = take c.in-Ok.n c.read_some.new.buffer in
     serves_put _ _ _ _ _ _ c.in-Ok-feed.fed _ _ _ _ _ c.loop-taken.taken piece inv.going c.in-Ok.ensures.content c.in-Ok-feed.ensures.ok
     (omega (arith, c.in-Ok.ensures.bound.0, c.loop-taken-test.true, length-take c.in-Ok.n c.read_some.new.buffer))
-    (puts_same c.deref.result.now c.in-Ok-feed.fed.requests.items (Err c.in-Err-put_answers.end) (g.V.Station.tells c.loop-taken.station) (g.V.Station.tells c.args.station.now)
-    (g.V.Station.content c.loop-taken.station) (g.V.Station.content c.put_answers.new.station) c.deref.ensures.value inv.tells c.in-Err-put_answers.ensures.puts) c.in-Err-put_answers.ensures.ends
+    (puts_same (lists_of c.as_slice.result.now) c.in-Ok-feed.fed.requests (Err c.in-Err-put_answers.end) (g.V.Station.tells c.loop-taken.station) (g.V.Station.tells c.args.station.now)
+    (g.V.Station.content c.loop-taken.station) (g.V.Station.content c.put_answers.new.station) c.as_slice.ensures inv.tells c.in-Err-put_answers.ensures.puts) c.in-Err-put_answers.ensures.ends
 
 pub returns-then-is_some-clause-run : goal.returns-then-is_some-clause-run
 returns-then-is_some-clause-run g c =
     let inv = c.loop-taken.invariant in
     let piece = take c.in-Ok.n c.read_some.new.buffer in
     let going = going_more _ _ _ _ _ c.in-Ok-feed.fed _ _ _ _ c.loop-taken.taken piece inv.going c.in-Ok.ensures.content c.in-Ok-feed.ensures.ok
-    (puts_same c.deref.result.now c.in-Ok-feed.fed.requests.items (Ok tt) (g.V.Station.tells c.loop-taken.station) (g.V.Station.tells c.args.station.now)
-    (g.V.Station.content c.loop-taken.station) (g.V.Station.content c.put_answers.new.station) c.deref.ensures.value inv.tells c.in-Ok-put_answers.ensures.puts) in
+    (puts_same (lists_of c.as_slice.result.now) c.in-Ok-feed.fed.requests (Ok tt) (g.V.Station.tells c.loop-taken.station) (g.V.Station.tells c.args.station.now)
+    (g.V.Station.content c.loop-taken.station) (g.V.Station.content c.put_answers.new.station) c.as_slice.ensures inv.tells c.in-Ok-put_answers.ensures.puts) in
     serves_refused _ _ _ _ _ _ _ (c.loop-taken.taken + length piece) going
     (omega (arith, c.in-Ok.ensures.bound.0, c.loop-taken-test.true, length-take c.in-Ok.n c.read_some.new.buffer))
     (is_stop c.feed.new.self _ _ c.in-Ok-feed.ensures.ok.stop c.is_some.ensures ∙ c.if-is_some.true)
@@ -86,8 +87,8 @@ loop-taken-preserved g c =
       going = subst (λ (n : ℕ). Going (g.S.Source.left c.args.source.now) (g.S.Source.left c.read_some.new.source) c.feed.new.self (g.V.Station.tells c.args.station.now)
           (g.V.Station.content c.args.station.now) (g.V.Station.content c.put_answers.new.station) (c.loop-taken.taken + n)) size
           (going_more _ _ _ _ _ c.in-Ok-feed.fed _ _ _ _ c.loop-taken.taken piece inv.going c.in-Ok.ensures.content c.in-Ok-feed.ensures.ok
-          (puts_same c.deref.result.now c.in-Ok-feed.fed.requests.items (Ok tt) (g.V.Station.tells c.loop-taken.station) (g.V.Station.tells c.args.station.now)
-          (g.V.Station.content c.loop-taken.station) (g.V.Station.content c.put_answers.new.station) c.deref.ensures.value inv.tells c.in-Ok-put_answers.ensures.puts));
+          (puts_same (lists_of c.as_slice.result.now) c.in-Ok-feed.fed.requests (Ok tt) (g.V.Station.tells c.loop-taken.station) (g.V.Station.tells c.args.station.now)
+          (g.V.Station.content c.loop-taken.station) (g.V.Station.content c.put_answers.new.station) c.as_slice.ensures inv.tells c.in-Ok-put_answers.ensures.puts));
       tells = c.put_answers.ensures.tells ∙ inv.tells;
       source_later = omega (arith, inv.source_later, c.read_some.ensures.cause.later);
       station_later = omega (arith, inv.station_later, c.put_answers.ensures.later);

@@ -23,7 +23,7 @@ pub returns-clause-ok : goal.returns-clause-ok
 returns-clause-ok c =
     let splits = subst (λ (octets : List ℕ). Splits octets c.args.piece.now c.in_ok-split.split) c.deref.ensures.value c.in_ok-split.ensures in
     after_feeds c.self.inside c.args.self.now c.args.piece.now c.in_ok-split.split c.keep.new.rest c.stop-2.result c.self.view_is c.self.invariant
-    c.if-self.false splits c.in_ok-keep.ensures.ok c.stop-2.ensures
+    c.if-self.false splits c.in_ok-keep.ensures.ok c.stop-2.ensures c.new-2.result c.new-2.ensures
 
 pub returns-clause-counted : goal.returns-clause-counted
 returns-clause-counted c =
