@@ -1,0 +1,10 @@
+pub mod Building
+pub mod Rows
+pub mod Says
+pub mod Steps
+pub mod Walked
+pub mod Reading
+pub mod Ends
+pub mod Getters
+pub mod NumberLemmas
+pub mod GrammarLemmas

@@ -1,0 +1,4 @@
+pub mod Uses
+pub mod Commands
+pub mod Grammar
+pub mod Number
