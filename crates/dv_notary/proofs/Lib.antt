@@ -1,1 +1,4 @@
+pub mod Lines
 pub mod Putting
+pub mod RequestLemmas
+pub mod ShowLemmas

@@ -1,4 +1,5 @@
 pub mod Line
 pub mod Server
+pub mod Show
 pub mod Status
 pub mod Tool

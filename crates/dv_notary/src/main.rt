@@ -1,16 +1,20 @@
 //! The notary's program: it reads its words, makes the objects of the real world, and hands both to a top call.
 //!
 //! A top call is generic over what it is lent ([`dv_outside`]'s traits), so its contract, which says what each command puts
-//! and when each exit status comes, holds over files, over memory and over any other world. So far there is one top call,
-//! [`tool::run_tool`], and one command, `request cpd FILE`.
+//! and when each exit status comes, holds over files, over memory and over any other world. There are two top calls:
+//! [`server::run_serve`] has the line of the server, and [`tool::run_tool`] those of all other commands, so far `request` and
+//! `show`.
 //!
-//! The crate stands on `dv_request`, which makes the octets, and on `dv_outside`.
+//! The crate stands on `dv_words`, which takes the words apart, on `dv_request` and `dv_session`, which make the octets, and on
+//! `dv_outside`.
 #![tactic(auto)]
 
 mod line;
 mod server;
+mod show;
 mod status;
 mod tool;
+mod usage;
 
 use crate::server::run_serve;
 use crate::status::Status;

@@ -7,8 +7,9 @@ ghost use Rattle.dv_notary.specs.Line.{line_of, texts_of, serve as serve_line};
 ghost use Rattle.dv_notary.specs.Server.{status_of_end};
 ghost use Rattle.dv_notary.specs.Status.{number_of};
 
-use crate::line::{Line, USAGE, read_words};
+use crate::line::{Line, read_words};
 use crate::status::Status;
+use crate::usage::say_no_line;
 use dv_outside::{Clock, Diag, Shelf, Source, Station};
 use dv_session::{End, serve};
 
@@ -26,7 +27,7 @@ fn ended<E: Diag>(diag: &mut E, end: End) -> Status
         ),
         End::Refused => (
             Status::Input,
-            "the octets after the last request are none, or the input ended in them",
+            "the octets after the last request begin no request, or the input ended within one",
         ),
         End::Limit => (
             Status::Limit,
@@ -41,8 +42,7 @@ fn ended<E: Diag>(diag: &mut E, end: End) -> Status
 /// of the server is the one word `serve`.
 ///
 /// Requests come from `source`, one after another; the answer to each is put to `station` before more is read. So far no
-/// service is built: a request that is a ContentInfo of type id-ct-DVCSRequestData or id-signedData gets the notice
-/// systemUnavail, and every other one the notice badDataFormat.
+/// service is built: each request gets the notice of the first step that refuses it, and systemUnavail where none does.
 ///
 /// | Status | Comes |
 /// |---|---|
@@ -80,10 +80,17 @@ pub fn run_serve<R: AllocGlobal, S: Source, V: Station, F: Shelf, C: Clock, E: D
     ensures clock { clock.new ≡ clock.old }
 {
     let mut station = station;
-    let Some(Line::Serve) = read_words(words) else {
-        diag.line(USAGE);
-        return (Status::Words.number(), station);
-    };
+    match read_words(rt.alloc(), words) {
+        Ok(Line::Serve) => {}
+        Ok(_) => {
+            diag.line("the line is no server's");
+            return (Status::Words.number(), station);
+        }
+        Err(fault) => {
+            say_no_line(rt.alloc(), diag, &fault);
+            return (Status::Words.number(), station);
+        }
+    }
     let end = serve(rt.alloc(), source, &mut station);
     (ended(diag, end).number(), station)
 }

@@ -1,6 +1,6 @@
 //! Runs of the server over the outside in memory: what is put for which input, and how a run ends.
 
-ghost use Rattle.std.specs.Prelude.{◌<◌};
+ghost use Rattle.std.specs.Prelude.{◌<◌, ◌≤◌, length};
 
 use super::*;
 use dv_outside_mem::{MemClock, MemDiag, MemShelf, MemSource, MemStation};
@@ -133,5 +133,143 @@ fn faults(rt: HostRuntime) -> Result<(), Fail> {
         station.sent(),
         joined(alloc, &SYSTEM_UNAVAIL, &SYSTEM_UNAVAIL[..15])?.as_slice()
     );
+    Ok(())
+}
+
+/// A ContentInfo of type 1.2.840.113549.1.9.16.1.`kind` with this content.
+fn message(alloc: Global, kind: u8, content: &[u8]) -> Result<Vec<u8>, Fail>
+    requires { length content.now ≤ 100 }
+{
+    let len = content.len() as u8;
+    #[rattlefmt::skip]
+    let front = [
+        0x30, len + 15, 0x06, 0x0B, 0x2A, 0x86, 0x48, 0x86, 0xF7, 0x0D, 0x01, 0x09, 0x10, 0x01, kind, 0xA0, len,
+    ];
+    joined(alloc, &front, content)
+}
+
+/// Serves a message with this request.
+fn answer_to(rt: &HostRuntime, request: &[u8]) -> Result<(u8, MemStation), Fail>
+    requires { length request.now ≤ 100 }
+{
+    let alloc = rt.alloc();
+    let octets = message(alloc, 7, request)?;
+    serve_octets(rt, octets, 65_536, Vec::new(alloc), Vec::new(alloc))
+}
+
+/// The content of the notice badRequest.
+const BAD_REQUEST: [u8; 11] = [
+    0xA0, 0x09, 0x30, 0x07, 0x02, 0x01, 0x02, 0x03, 0x02, 0x05, 0x20,
+];
+
+#[test]
+fn versions(rt: HostRuntime) -> Result<(), Fail> {
+    let bad_data_format = [
+        0xA0, 0x09, 0x30, 0x07, 0x02, 0x01, 0x02, 0x03, 0x02, 0x02, 0x04,
+    ];
+    for (version, notice) in [(1, bad_data_format), (2, BAD_REQUEST)] {
+        let request = [
+            0x30, 0x0D, 0x30, 0x06, 0x02, 0x01, version, 0x0A, 0x01, 0x01, 0x04, 0x03, 0x61, 0x62,
+            0x63,
+        ];
+        let (status, station) = answer_to(&rt, &request)?;
+        assert_eq!(rt; status, 0, "version {version}");
+        assert_eq!(rt;
+            station.sent(),
+            message(rt.alloc(), 8, &notice)?.as_slice(),
+            "version {version}"
+        );
+    }
+    Ok(())
+}
+
+/// A request for possession with a digest for its data, and with these octets behind that.
+fn request_with_a_digest(alloc: Global, len: u8, behind: &[u8]) -> Result<Vec<u8>, Fail> {
+    let front = [
+        0x30, len, 0x30, 0x03, 0x0A, 0x01, 0x01, 0x30, 0x2F, 0x30, 0x0B, 0x06, 0x09, 0x60, 0x86,
+        0x48, 0x01, 0x65, 0x03, 0x04, 0x02, 0x01, 0x04, 0x20,
+    ];
+    let mut request = joined(alloc, &front, &[7; 32])?;
+    request.extend_from_slice(behind)?;
+    Ok(request)
+}
+
+#[test]
+fn data_of_another_service(rt: HostRuntime) -> Result<(), Fail> {
+    let alloc = rt.alloc();
+    let rows: [(u8, &[u8], &[u8]); 2] = [
+        (0x36, &[], &BAD_REQUEST),
+        (
+            0x39,
+            &[0x82, 0x01, 0x61],
+            &[
+                0xA0, 0x0C, 0x30, 0x07, 0x02, 0x01, 0x02, 0x03, 0x02, 0x05, 0x20, 0x82, 0x01, 0x61,
+            ],
+        ),
+    ];
+    for (len, transaction, notice) in rows {
+        let request = request_with_a_digest(alloc, len, transaction)?;
+        assert!(rt; request.len() <= 100 && notice.len() <= 100);
+        let (status, station) = answer_to(&rt, &request)?;
+        assert_eq!(rt; status, 0, "{transaction:?}");
+        assert_eq!(rt;
+            station.sent(),
+            message(alloc, 8, notice)?.as_slice(),
+            "{transaction:?}"
+        );
+    }
+    Ok(())
+}
+
+#[test]
+fn tokens_for_times(rt: HostRuntime) -> Result<(), Fail> {
+    let bad_time = [
+        0xA0, 0x09, 0x30, 0x07, 0x02, 0x01, 0x02, 0x03, 0x02, 0x04, 0x10,
+    ];
+    let request = [
+        0x30, 0x09, 0x30, 0x05, 0x0A, 0x01, 0x02, 0x30, 0x00, 0x04, 0x00,
+    ];
+    let (_, station) = answer_to(&rt, &request)?;
+    assert_eq!(rt;
+        station.sent(),
+        message(rt.alloc(), 8, &bad_time)?.as_slice()
+    );
+    // Of another version too, which comes first.
+    let request = [
+        0x30, 0x0C, 0x30, 0x08, 0x02, 0x01, 0x02, 0x0A, 0x01, 0x02, 0x30, 0x00, 0x04, 0x00,
+    ];
+    let (_, station) = answer_to(&rt, &request)?;
+    assert_eq!(rt;
+        station.sent(),
+        message(rt.alloc(), 8, &BAD_REQUEST)?.as_slice()
+    );
+    Ok(())
+}
+
+#[test]
+fn services_that_are_not_built(rt: HostRuntime) -> Result<(), Fail> {
+    let request = [
+        0x30, 0x0D, 0x30, 0x03, 0x0A, 0x01, 0x01, 0x04, 0x03, 0x61, 0x62, 0x63, 0x82, 0x01, 0x61,
+    ];
+    let notice = [
+        0xA0, 0x0F, 0x30, 0x0A, 0x02, 0x01, 0x02, 0x03, 0x05, 0x07, 0x00, 0x00, 0x00, 0x80, 0x82,
+        0x01, 0x61,
+    ];
+    let (_, station) = answer_to(&rt, &request)?;
+    assert_eq!(rt; station.sent(), message(rt.alloc(), 8, &notice)?.as_slice());
+    Ok(())
+}
+
+#[test]
+fn a_signed_message(rt: HostRuntime) -> Result<(), Fail> {
+    let alloc = rt.alloc();
+    let octets = [
+        0x30, 0x0F, 0x06, 0x09, 0x2A, 0x86, 0x48, 0x86, 0xF7, 0x0D, 0x01, 0x07, 0x02, 0xA0, 0x02,
+        0x30, 0x00,
+    ];
+    let octets = octets.to_vec(alloc)?;
+    let (status, station) = serve_octets(&rt, octets, 65_536, Vec::new(alloc), Vec::new(alloc))?;
+    assert_eq!(rt; status, 0);
+    assert_eq!(rt; station.sent(), SYSTEM_UNAVAIL.as_slice());
     Ok(())
 }

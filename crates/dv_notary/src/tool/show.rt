@@ -1,0 +1,68 @@
+//! The command `show`.
+ghost use Rattle.std.specs.Prelude.{◌≡◌, ◌≢◌, ◌⊎◌, ◌≤◌, IfSome};
+ghost use Rattle.dv_outside.specs.Causes.{Rose};
+ghost use Rattle.dv_outside.specs.Station.{Spends};
+ghost use Rattle.dv_notary.specs.Show.{IsNotShown};
+ghost use Rattle.dv_notary.specs.Status.{number_of};
+ghost use Rattle.dv_notary.specs.Tool.{IsStatus, PutsShown};
+
+use super::{refused, say};
+use crate::show::{ShowFault, show_values};
+use crate::status::Status;
+use dv_outside::{Diag, Shelf, ShelfRefusal, Station};
+use std::alloc::Global;
+
+/// The most octets of a file that is shown.
+const FILE_LIMIT: u64 = 16_777_216;
+
+/// Says that a file's values aren't shown, from this place in it on.
+fn say_place<E: Diag>(alloc: Global, diag: &mut E, file: &str, place: u64) {
+    match format!(in alloc; "refused at {place}") {
+        Ok(text) => say(alloc, diag, file, text.as_str()),
+        Err(_) => say(alloc, diag, file, "refused"),
+    }
+}
+
+/// Reads the file, and puts a line for each of its values.
+pub(crate) fn put_shown<V: Station, F: Shelf, E: Diag>(
+    alloc: Global,
+    file: &str,
+    shelf: &mut F,
+    diag: &mut E,
+    station: &mut V,
+) -> Status
+    ensures status { IsStatus (number_of result) }
+    ensures words { result ≢ Status.Words }
+    ensures put { (result ≡ Status.Done) ⊎ (result ≡ Status.Put)
+        → PutsShown (F.files shelf.old) file.now (number_of result) (V.tells station.old) (V.content station.old) (V.content station.new) }
+    ensures quiet { result ≢ Status.Done → result ≢ Status.Put → station.new ≡ station.old }
+    ensures not_shown { result ≡ Status.File → IfSome (F.files shelf.old) (λ files. IsNotShown (files file.now)) }
+    ensures put_fault { result ≡ Status.Put → Rose (V.counts station.old).put_faults (V.counts station.new).put_faults }
+    ensures shelf_fault { result ≡ Status.Shelf → Rose (F.faults shelf.old) (F.faults shelf.new) }
+    ensures shelf_later { F.faults shelf.old ≤ F.faults shelf.new }
+    ensures shelf_files { F.files shelf.new ≡ F.files shelf.old }
+    ensures spends { Spends 1 16777216 (V.counts station.old) (V.counts station.new) }
+    ensures tells { V.tells station.new ≡ V.tells station.old }
+{
+    let octets = match shelf.read(alloc, file, FILE_LIMIT) {
+        Ok(octets) => octets,
+        Err(refusal) => return refused(alloc, diag, file, FILE_LIMIT, refusal),
+    };
+    let text = match show_values(alloc, &octets) {
+        Ok(text) => text,
+        Err(ShowFault::Refused(refusal)) => {
+            say_place(alloc, diag, file, refusal.place);
+            return Status::File;
+        }
+        Err(ShowFault::Memory) => {
+            return refused(alloc, diag, file, FILE_LIMIT, ShelfRefusal::Memory);
+        }
+    };
+    match station.put(text.as_bytes()) {
+        Ok(()) => Status::Done,
+        Err(_) => {
+            diag.line("the lines can't be written to the output");
+            Status::Put
+        }
+    }
+}
