@@ -2,3 +2,4 @@ pub mod Written
 pub mod Short
 pub mod Moments
 pub mod Counting
+pub mod Looking
