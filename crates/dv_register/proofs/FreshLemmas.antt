@@ -1,5 +1,5 @@
 -- A register that was just made or opened.
-use Rattle.std.proofs.Common.{◌≡◌, ◌∙◌, ℕ, ◌+◌, ◌≤◌, Bool, false, IsTrue, List, [], ◌∷◌, ◌++◌, length, take, subst, ap, refl, sym, arith}
+use Rattle.std.proofs.Common.{◌≡◌, ◌∙◌, ℕ, ◌+◌, ◌≤◌, Bool, false, IsTrue, List, [], ◌∷◌, ◌++◌, length, take, subst, ap, sym, arith, length-append}
 use Rattle.std.proofs.lemmas.List.{append-nil, take_all}
 use Rattle.std.specs.List.{AllByRecursion}
 use Rattle.dv_lms.specs.Signed.{public_of}
@@ -7,9 +7,11 @@ use Rattle.dv_outside.specs.Station.{Content, Counts}
 use Rattle.dv_outside.specs.Releases.{Identity as RuleIdentity, Entry}
 use Rattle.dv_register.specs.Layout.{IsEntry, records_of, Sound, BeginsWith}
 use Rattle.dv_register.specs.Refusals.{IsFirstSerial}
+use Rattle.dv_register.specs.Steps.{IsEmptyRegister}
 use Rattle.dv_register.specs.Safe.{SentAs, Terms, IsSafe, IsSettled}
-use Rattle.dv_register.specs.State.{State, IsHeld, IsInMemory, head_in, limit_in, terms_of}
+use Rattle.dv_register.specs.State.{State, IsHeld, IsInMemory, head_in, limit_in, terms_of, entries_of}
 use Rattle.dv_register.specs.declared.place.Place.{Place}
+use Rattle.dv_register.proofs.MemoryLemmas.{length-head_of}
 use Rattle.dv_register.proofs.SafeLemmas.{sound_closed}
 
 -- Nothing was sent, and each image is the register with this list.
@@ -61,3 +63,22 @@ held_new tells content counts allows s limit gate places octets base open_now op
   memory = memory;
   settled = λ told now. settled told;
 }
+
+-- An empty register that was just made.
+pub held_created : {V : Type 0} (tells : V → Bool) (content : V → Content) (counts : V → Counts) (allows : RuleIdentity → ℕ → List Entry → List ℕ → Type 0)
+    (s : State V) (limit : ℕ) (places : List Place) (octets : List ℕ) → s.list ≡ [] → s.base ≡ 0 → s.shut ≡ false → s.opening ≡ s.station → places ≡ []
+    → length (public_of s.identity) ≡ 60 → limit ≡ limit_in s → IsFirstSerial s.first → (IsTrue (tells s.station) → IsEmptyRegister (head_in s) (content s.station))
+    → IsHeld tells content counts allows s limit 76 places octets
+held_created tells content counts allows s limit places octets none base open_now opening no_places key leaves serial empty =
+    held_new tells content counts allows s limit 76 places octets (omega (arith, base, ap length none)) open_now opening key leaves serial
+    (subst (AllByRecursion IsEntry) (sym none) tt) (omega (arith, ap length none))
+    (record {
+      place = omega (arith, length-append (head_in s) (records_of s.list), ap (λ (l : List Entry). length (records_of l)) none, length-head_of (public_of s.identity) s.first key);
+      within = subst (AllByRecursion (λ p. p.from + p.len ≤ length octets)) (sym no_places) tt;
+      list = none ∙ sym (ap (λ (l : List Place). entries_of l octets) no_places);
+    })
+    (λ told. let e = empty told in record {
+      rest = [];
+      is = e.is ∙ ap (λ (l : List ℕ). l ++ 0 ∷ []) (sym (append-nil (head_in s)) ∙ ap (λ (l : List Entry). head_in s ++ records_of l) (sym none));
+      durable = e.durable;
+    })

@@ -6,3 +6,9 @@ pub mod ReserveLemmas
 pub mod EmitLemmas
 pub mod FreshLemmas
 pub mod Unique
+pub mod OpeningLemmas
+pub mod HeadLemmas
+pub mod CloseLemmas
+pub mod RefusalLemmas
+pub mod LivesLemmas
+pub mod ExactLemmas

@@ -1,5 +1,5 @@
 -- How much a register may hold.
-use Rattle.std.proofs.Common.{◌≡◌, ℕ, ◌+◌, ◌^◌, ◌≤◌, List, ◌++◌, length, arith, length-append, lit≤}
+use Rattle.std.proofs.Common.{◌≡◌, ℕ, ◌≤◌, List, ◌++◌, length, arith, length-append, lit≤}
 use Rattle.std.specs.List.{AllByRecursion}
 use Rattle.dv_lms.specs.Height.{leaf_count}
 use Rattle.dv_lms.specs.declared.height.Height.{Height}

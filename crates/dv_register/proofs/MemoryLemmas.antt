@@ -1,5 +1,6 @@
 -- The copies that a register keeps.
-use Rattle.std.proofs.Common.{◌≡◌, ◌∙◌, ℕ, ◌+◌, ◌*◌, ◌≤◌, List, [], ◌∷◌, ◌++◌, length, take, drop, subst, ap, refl, sym, arith, length-append, length-drop}
+use Rattle.std.specs.Prelude.{slice_get, Some}
+use Rattle.std.proofs.Common.{◌≡◌, ◌∙◌, ℕ, zero, suc, ◌+◌, ◌*◌, ◌≤◌, List, [], ◌∷◌, ◌++◌, length, take, drop, subst, ap, refl, sym, arith, length-append, length-drop}
 use Rattle.std.proofs.lemmas.List.{take-append-le, drop-append-le, take_at, drop_at, drop-drop, take_all}
 use Rattle.dv_outside.specs.Station.{Holds}
 use Rattle.std.specs.List.{AllByRecursion}
@@ -51,6 +52,13 @@ pub within_note : (places : List Place) (octets contents : List ℕ) (kind : ℕ
 within_note places octets contents kind within =
     within_push places (record { kind = kind; from = length octets; len = length contents }) (length (octets ++ contents))
     (within_more places (length octets) (length (octets ++ contents)) (omega (arith, length-append octets contents)) within) (omega (arith, length-append octets contents))
+
+-- the copy at a place
+pub entries_of-get : (places : List Place) (octets : List ℕ) (i : ℕ) (p : Place) → slice_get places i ≡ Some p
+    → slice_get (entries_of places octets) i ≡ Some (record { kind = p.kind; contents = take p.len (drop p.from octets) })
+entries_of-get [] octets i p is = absurd (cc)
+entries_of-get (q ∷ places) octets zero p is = let same : q ≡ p = cc in ap (λ (r : Place). Some (let e : Entry = record { kind = r.kind; contents = take r.len (drop r.from octets) } in e)) same
+entries_of-get (q ∷ places) octets (suc i) p is = entries_of-get places octets i p is
 
 -- no register is long
 pub length-records_of : (list : List Entry) → AllByRecursion IsEntry list → length (records_of list) ≤ length list * 1048582

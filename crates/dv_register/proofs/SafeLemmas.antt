@@ -13,7 +13,7 @@ use Rattle.dv_register.specs.Layout.{Sound, IsEntry, body_of, records_of, open_g
 use Rattle.dv_register.specs.Steps.{SameFront, BeforeOrAfter}
 use Rattle.dv_register.specs.Safe.{Part, joined, cut_count, SentAs, Terms, SafeAt, IsSafe}
 
-all_weaker : {X : Type 0} (P Q : X → Type 0) → ((x : X) → P x → Q x) → (xs : List X) → AllByRecursion P xs → AllByRecursion Q xs
+pub all_weaker : {X : Type 0} (P Q : X → Type 0) → ((x : X) → P x → Q x) → (xs : List X) → AllByRecursion P xs → AllByRecursion Q xs
 all_weaker P Q then [] all = tt
 all_weaker P Q then (x ∷ xs) all = (then x all.0, all_weaker P Q then xs all.1)
 
@@ -55,7 +55,7 @@ module _ (head : List ℕ) (limit : ℕ) (list : List Entry) (entries : AllByRec
       inl refl,
     )
 
-    body_sound : (b rest : List ℕ) (octet : ℕ) → b ≡ head ++ records_of list ++ octet ∷ body_of e ++ 0 ∷ rest → SoundFor head limit list b
+    pub body_sound : (b rest : List ℕ) (octet : ℕ) → b ≡ head ++ records_of list ++ octet ∷ body_of e ++ 0 ∷ rest → SoundFor head limit list b
     body_sound b rest octet is = ⊎_elim
         (λ open_now. (list ++ e ∷ [], pushed_sound b rest (subst (λ o. b ≡ head ++ records_of list ++ o ∷ body_of e ++ 0 ∷ rest) open_now is), (e ∷ [], refl)))
         (λ shut. (

@@ -4,3 +4,5 @@ pub mod Safe
 pub mod Steps
 pub mod SigningKey
 pub mod State
+pub mod Opening
+pub mod Lives

@@ -1,5 +1,5 @@
 -- What contracts see of a register.
-use Rattle.std.specs.Prelude.{◌≡◌, ◌+◌, ◌-◌, ◌≤◌, ℕ, Bool, true, false, IsTrue, List, [], ◌∷◌, ◌++◌, length, take, drop, if◌then◌else◌, nat_lt, Vec, vec_len, vec_capacity}
+use Rattle.std.specs.Prelude.{◌≡◌, ◌+◌, ◌-◌, ◌≤◌, ℕ, Bool, true, false, IsTrue, Result, Ok, Err, List, [], ◌∷◌, ◌++◌, length, take, drop, if◌then◌else◌, nat_lt, Vec, vec_len, vec_capacity}
 use Rattle.std.specs.List.{AllByRecursion}
 use Rattle.std.specs.declared.alloc.Global.{Global}
 use Rattle.dv_lms.specs.Height.{leaf_count, levels}
@@ -11,6 +11,7 @@ use Rattle.dv_outside.specs.Releases.{Identity as RuleIdentity, Entry}
 use Rattle.dv_register.specs.Layout.{IsEntry, head_of, records_of}
 use Rattle.dv_register.specs.Refusals.{IsFirstSerial}
 use Rattle.dv_register.specs.Safe.{Terms, IsSafe, IsSettled}
+use Rattle.dv_register.specs.SigningKey.{SlotState}
 use Rattle.dv_register.specs.declared.place.Place.{Place}
 
 -- A register: its station now and as it was at the opening, its key, the serial of its first record, its list, how many
@@ -36,6 +37,15 @@ head_in s = head_of (public_of s.identity) s.first
 -- How many records it may hold: one for each leaf of its key.
 abbrev pub limit_in : {V : Type 0} → State V → ℕ
 limit_in s = leaf_count s.identity.height
+
+-- What the record of this number has for its certificate.
+abbrev pub slot_at : {V : Type 0} → State V → ℕ → SlotState
+slot_at s index = record { serial = s.first + index; leaf = record { number = index; key = s.identity } }
+
+-- The station of a register that was made or opened, or the one that a refusal hands back.
+abbrev pub station_left : {V E : Type 0} → Result (State V) (V × E) → V
+station_left (Ok s) = s.station
+station_left (Err refused) = refused.0
 
 -- What a register is measured by.
 abbrev pub terms_of : {V : Type 0} → (V → Content) → (V → Counts) → (RuleIdentity → ℕ → List Entry → List ℕ → Type 0) → State V → Terms

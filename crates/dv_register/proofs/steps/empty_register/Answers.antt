@@ -1,5 +1,5 @@
 -- The head and a closed gate, laid over zeros.
-use Rattle.std.proofs.Common.{◌≡◌, subst, List, ℕ, [], ◌∷◌, length, refl, rules}
+use Rattle.std.proofs.Common.{◌≡◌, subst, List, ℕ, length, refl, rules}
 use Rattle.std.specs.Prelude.{replicate}
 use Rattle.dv_outside.specs.Station.{Holds}
 use Rattle.dv_register.specs.Layout.{magic}
