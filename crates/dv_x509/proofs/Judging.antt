@@ -67,7 +67,7 @@ too_long tag octets long =
     record { exact = rw t refl; found = tt; only = λ v few fits is. absurd (omega arith) }
 
 -- octets that aren't
-not_long : (tag : ℕ) (octets : List ℕ) → length octets ≤ 8192 → certificate_in tag octets ≡ judged_if (read_all (certificate tag) (certificate_front octets))
+pub not_long : (tag : ℕ) (octets : List ℕ) → length octets ≤ 8192 → certificate_in tag octets ≡ judged_if (read_all (certificate tag) (certificate_front octets))
 unfolding certificate_in
 not_long tag octets few = let t : ltb 8192 (length octets) ≡ false = le-ltb _ _ few in rw t refl
 
@@ -77,7 +77,7 @@ found_in : (tag : ℕ) (octets : List ℕ) (w : FieldsOf certificate_fields) →
 found_in tag octets w bytes e = slice_takes (certificate tag) (certificate_front octets) w bytes (judged_value (read_all (certificate tag) (certificate_front octets)) w e)
 
 -- what is spelled is judged
-only_in : (tag : ℕ) (octets : List ℕ) (v : FieldsOf certificate_fields) → (tag ≡ 48) ⊎ (tag ≡ 160) → Fits (certificate tag) 26 v → octets ≡ spelling (certificate tag) v
+pub only_in : (tag : ℕ) (octets : List ℕ) (v : FieldsOf certificate_fields) → (tag ≡ 48) ⊎ (tag ≡ 160) → Fits (certificate tag) 26 v → octets ≡ spelling (certificate tag) v
     → judged_if (read_all (certificate tag) (certificate_front octets)) ≡ judged v
 only_in tag octets v two fits is = ap judged_if (slice_spelled (certificate tag) (certificate_front octets) v (clear_under tag two) fits is)
 

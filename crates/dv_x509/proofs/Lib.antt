@@ -3,6 +3,7 @@ pub mod ExtensionLists
 pub mod Judging
 pub mod KnownContents
 pub mod MemberLists
+pub mod OwnFits
 pub mod OwnLemmas
 pub mod UseLemmas
 pub mod WholeLemmas

@@ -4,6 +4,7 @@ use crate::{Ca, Certificate, OwnParts, X509, own_certificate, own_tbs};
 use dv_asn1::{Der, Why};
 use dv_names::identifiers::{ANY_POLICY, ID_KP_DVCS};
 use dv_time::Moment;
+use std::alloc::{AllocError, Global};
 use std::test::Fail;
 
 /// The own certificate of the name notary with serial 1, for the year 2025, whose signature is the octets 01 02 03.
@@ -134,5 +135,161 @@ fn other_causes(rt: HostRuntime) -> Result<(), Fail> {
         cause(&[0x30; 8192]),
         Some(X509::Der(Der::new(2, Why::End)))
     );
+    Ok(())
+}
+
+/// What stands in the place of the last extension of the own certificate: the last octet of its identifier, and how its value of
+/// 22 octets begins, the rest being 11; and the place and the reason of the refusal, where there is one.
+struct Row {
+    identifier: u8,
+    value: &'static [u8],
+    refusal: Option<(u64, Why)>,
+}
+
+const GOOD: [Row; 6] = [
+    Row {
+        identifier: 0x0F,
+        value: &[0x03, 20, 0],
+        refusal: None,
+    },
+    Row {
+        identifier: 0x25,
+        value: &[0x30, 20, 0x06, 18],
+        refusal: None,
+    },
+    Row {
+        identifier: 0x13,
+        value: &[0x30, 20, 0x01, 1, 0xFF, 0x02, 15],
+        refusal: None,
+    },
+    Row {
+        identifier: 0x0E,
+        value: &[0x04, 20],
+        refusal: None,
+    },
+    Row {
+        identifier: 0x23,
+        value: &[0x30, 20, 0x04, 18],
+        refusal: None,
+    },
+    Row {
+        identifier: 0x20,
+        value: &[0x30, 20, 0x30, 18, 0x06, 16],
+        refusal: None,
+    },
+];
+
+const BAD: [Row; 9] = [
+    // keyUsage with eight unused bits, and as an OCTET STRING
+    Row {
+        identifier: 0x0F,
+        value: &[0x03, 20, 8],
+        refusal: Some((233, Why::Value)),
+    },
+    Row {
+        identifier: 0x0F,
+        value: &[0x04, 20],
+        refusal: Some((233, Why::Tag)),
+    },
+    // extKeyUsage with an OCTET STRING
+    Row {
+        identifier: 0x25,
+        value: &[0x30, 20, 0x04, 18],
+        refusal: Some((235, Why::Tag)),
+    },
+    // basicConstraints with a FALSE that is spelled out, and with a negative bound
+    Row {
+        identifier: 0x13,
+        value: &[0x30, 20, 0x01, 1, 0, 0x02, 15],
+        refusal: Some((235, Why::Value)),
+    },
+    Row {
+        identifier: 0x13,
+        value: &[0x30, 20, 0x01, 1, 0xFF, 0x02, 15, 0x80],
+        refusal: Some((238, Why::Value)),
+    },
+    // subjectKeyIdentifier as a BIT STRING
+    Row {
+        identifier: 0x0E,
+        value: &[0x03, 20, 0],
+        refusal: Some((233, Why::Tag)),
+    },
+    // authorityKeyIdentifier as a SET, and with a value that goes past it
+    Row {
+        identifier: 0x23,
+        value: &[0x31, 20, 0x04, 18],
+        refusal: Some((233, Why::Tag)),
+    },
+    Row {
+        identifier: 0x23,
+        value: &[0x30, 20, 0x04, 19],
+        refusal: Some((235, Why::End)),
+    },
+    // certificatePolicies with an identifier that goes past its policy
+    Row {
+        identifier: 0x20,
+        value: &[0x30, 20, 0x30, 18, 0x06, 17],
+        refusal: Some((237, Why::End)),
+    },
+];
+
+/// Why the own certificate with this extension in the place of its last one is none. The first two are other extensions.
+fn cause_of(row: &Row) -> Option<X509> {
+    let mut octets = OWN;
+    octets[190] = 0x12;
+    octets[206] = 0x11;
+    octets[230] = row.identifier;
+    octets[233..255].copy_from_slice(&[0x11; 22]);
+    for (octet, value) in octets[233..255].iter_mut().zip(row.value) {
+        *octet = *value;
+    }
+    cause(&octets)
+}
+
+fn expected(row: &Row) -> Option<X509> {
+    match row.refusal {
+        None => None,
+        Some((place, why)) => Some(X509::Der(Der::new(place, why))),
+    }
+}
+
+#[test]
+fn good_extensions(rt: HostRuntime) -> Result<(), Fail> {
+    for row in &GOOD {
+        assert_eq!(rt; cause_of(row), expected(row), "{:02X}", row.identifier);
+    }
+    Ok(())
+}
+
+#[test]
+fn bad_extensions(rt: HostRuntime) -> Result<(), Fail> {
+    for row in &BAD {
+        assert_eq!(rt; cause_of(row), expected(row), "{:02X}", row.identifier);
+    }
+    Ok(())
+}
+
+#[test]
+fn repeated_extension(rt: HostRuntime) -> Result<(), Fail> {
+    // subjectKeyIdentifier becomes a second keyUsage
+    assert_eq!(rt;
+        cause_with(230, 0x0F),
+        Some(X509::Der(Der::new(224, Why::Value)))
+    );
+    Ok(())
+}
+
+/// Why the own certificate with a signature of so many octets is none.
+fn cause_of_signed(alloc: Global, octets: usize) -> Result<Option<X509>, AllocError> {
+    let signature = vec![in alloc; 0u8; octets]?;
+    let whole = own_certificate(alloc, &OWN[4..255], &signature)?;
+    Ok(cause(&whole))
+}
+
+#[test]
+fn longest(rt: HostRuntime) -> Result<(), Fail> {
+    // 275 octets stand beside the signature
+    assert_eq!(rt; cause_of_signed(rt.alloc(), 7917)?, None);
+    assert_eq!(rt; cause_of_signed(rt.alloc(), 7918)?, Some(X509::TooLong));
     Ok(())
 }
