@@ -14,3 +14,4 @@ mod signer;
 
 pub use cert_info::CertInfo;
 pub use response::{Notice, Response};
+pub use signer::{Attribute, SERIAL_LIMIT, Signer};

@@ -8,13 +8,13 @@ use dv_asn1::{AnyValue, Cursor, Decode, Der, Member, Why, read_optional_set, rea
 use dv_names::{AlgId, Name, Oid};
 
 /// The most octets that the contents of a serial number have.
-pub(crate) const SERIAL_LIMIT: usize = 20;
+pub const SERIAL_LIMIT: usize = 20;
 
 /// The tag of a subject key identifier.
 const KEY_IDENTIFIER: u8 = 0x80;
 
 /// An Attribute (RFC 5652 5.3), whose values ascend.
-pub(crate) struct Attribute;
+pub struct Attribute;
 
 impl Member for Attribute {
     ghost use Rattle.dv_response.specs.Types.{attribute};
@@ -34,7 +34,7 @@ impl Member for Attribute {
 }
 
 /// A SignerInfo (RFC 5652 5.3), whose attributes ascend.
-pub(crate) struct Signer;
+pub struct Signer;
 
 impl Member for Signer {
     ghost use Rattle.dv_response.specs.Types.{signer_info};

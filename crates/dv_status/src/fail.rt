@@ -13,7 +13,7 @@ use std::marker::Model;
 ///
 /// Contracts see them as a number of 32 bits, in which failure bit i has the worth 2^(31 - i), as in the first four octets of
 /// a BIT STRING (X.690 8.6.2).
-#[derive(Clone, Copy, Debug)]
+#[derive(Clone, Copy, Debug, PartialEq, Eq)]
 pub struct FailBits {
     bits: u32,
 }

@@ -1,0 +1,10 @@
+pub mod CertInfo
+pub mod Completed
+pub mod OwnRecords
+pub mod Parts
+pub mod Read
+pub mod Records
+pub mod Servers
+pub mod Spans
+pub mod Types
+pub mod Views
