@@ -88,4 +88,5 @@ def main():
         print(f"  the type and path[0]: {octets[1132:1168].hex()}")
 
 
-main()
+if __name__ == "__main__":
+    main()

@@ -1,0 +1,4 @@
+pub mod AttributeLemmas
+pub mod LeaveLemmas
+pub mod OrderLemmas
+pub mod RoomLemmas
