@@ -8,3 +8,7 @@ pub mod PutsLemmas
 pub mod AnswerLemmas
 pub mod RunLemmas
 pub mod MessageLemmas
+pub mod StepLemmas
+pub mod PolicyLemmas
+pub mod ReplyLemmas
+pub mod OneReply

@@ -1,5 +1,5 @@
 -- Which octets are a request's message, by what decoding them answers.
-use Rattle.std.proofs.Common.{◌≡◌, ◌≢◌, ℕ, List, [], ap, sym, subst, refl, ◌∙◌}
+use Rattle.std.proofs.Common.{◌≡◌, ◌≢◌, ℕ, List, [], ap, subst, refl}
 use Rattle.dv_schema.specs.Schema.{ValueOf, spelling}
 use Rattle.dv_schema.specs.Fits.{Fits}
 use Rattle.dv_cms.specs.Types.{content_info, signed_data_type}
@@ -18,13 +18,13 @@ IsOnly octets value = (v : ValueOf content_info) → Fits content_info 32 v → 
 module _ (octets type content : List ℕ) (fits : Fits content_info 32 (info_of type content)) (is : octets ≡ spelling content_info (info_of type content))
     (only : IsOnly octets (info_of type content)) where
   -- the type and the content are those that it was read with
-  not_signed : type ≢ signed_data_type → IsContentInfo signed_data_type octets → ⊥
+  pub not_signed : type ≢ signed_data_type → IsContentInfo signed_data_type octets → ⊥
   not_signed other info = other (ap (λ (v : ValueOf content_info). v.0) (only (info_of signed_data_type info.0) info.1.0 info.1.1))
 
-  its_type : (v : ValueOf dvcs_request) → IsRequestMessage v octets → type ≡ request_data_type
+  pub its_type : (v : ValueOf dvcs_request) → IsRequestMessage v octets → type ≡ request_data_type
   its_type v message = ap (λ (i : ValueOf content_info). i.0) (only (info_of request_data_type (spelling dvcs_request v)) message.1.0 message.1.1)
 
-  its_content : (v : ValueOf dvcs_request) → IsRequestMessage v octets → content ≡ spelling dvcs_request v
+  pub its_content : (v : ValueOf dvcs_request) → IsRequestMessage v octets → content ≡ spelling dvcs_request v
   its_content v message = ap (λ (i : ValueOf content_info). i.1.0.0) (only (info_of request_data_type (spelling dvcs_request v)) message.1.0 message.1.1)
 
   pub read_failure : (transaction : List ℕ) (bit : ℕ) → HasInfoFailure type content transaction bit → HasFailure octets transaction bit

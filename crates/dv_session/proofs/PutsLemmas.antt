@@ -1,9 +1,9 @@
 -- Puts, one after another.
-use Rattle.std.proofs.Common.{◌≡◌, ◌↔◌, ◌⊎◌, ◌∙◌, ⊎_elim, ℕ, ◌+◌, ◌<◌, ◌≤◌, List, [], ◌++◌, length, take, subst, ap, refl, sym, arith, append_assoc, length-append}
+use Rattle.std.proofs.Common.{◌≡◌, ◌↔◌, ◌∙◌, ⊎_elim, ℕ, ◌+◌, List, [], ◌++◌, length, take, subst, ap, refl, sym, arith, append_assoc, length-append}
 use Rattle.std.proofs.lemmas.List.{append-nil, take-append-le}
 use Rattle.std.proofs.Math.Seq.{take-append-add}
 use Rattle.std.specs.Prelude.{Result, Ok, Err, OnOk}
-use Rattle.dv_outside.specs.Station.{Content, Keeps, Meanwhile, Puts}
+use Rattle.dv_outside.specs.Station.{Content, Puts}
 use Rattle.dv_outside.proofs.Moments.{le_or_lt, keeps_none, keeps_then}
 
 -- no put

@@ -1,20 +1,19 @@
 -- A run of the server, turn by turn.
 use Rattle.std.proofs.Common.{◌≡◌, ◌≢◌, ◌⊎◌, ◌∙◌, ⊎_elim, inl, inr, ℕ, ◌+◌, ◌<◌, ◌≤◌, ◌^◌, Bool, true, false, List, [], ◌∷◌, ◌++◌, length, take, drop, refl, sym, ap, subst, arith, append_assoc, length-append, Ok, Err}
-use Rattle.std.specs.Prelude.{Option, Some, None, IsTrue, Result, Vec, is_some, if◌then◌else◌}
-use Rattle.std.specs.declared.alloc.Global.{Global}
+use Rattle.std.specs.Prelude.{Option, Some, None, IsTrue, Result, is_some, if◌then◌else◌}
 use Rattle.std.specs.Option.{option_map}
-use Rattle.std.specs.List.{concat, AllByRecursion}
+use Rattle.std.specs.List.{concat}
 use Rattle.std.proofs.lemmas.List.{append-nil}
 use Rattle.std.proofs.lemmas.List.Folds.{concat-append}
 use Rattle.dv_outside.specs.Station.{Content, Puts}
 use Rattle.dv_session.specs.declared.framer.Fed.{Fed}
 use Rattle.dv_session.specs.declared.serving.End.{End}
 use Rattle.dv_session.specs.declared.serving.End.TheVariants.{Input, Read, Put, Memory, Refused, Limit}
-use Rattle.dv_session.specs.Requests.{Requests, HasNoHeader}
+use Rattle.dv_session.specs.Requests.{HasNoHeader}
 use Rattle.dv_session.specs.Progress.{Progress, start, stop_of, Reads, IsAt}
 use Rattle.dv_session.specs.Feeding.{Feeds, requests_of}
 use Rattle.dv_session.specs.Answers.{Answers}
-use Rattle.dv_session.specs.Serving.{Run, HasTaken, IsRun, IsAnswered, Ends, Sends, SendsAll, SendsFront, PutsAnswers, Serves}
+use Rattle.dv_session.specs.Serving.{Run, HasTaken, IsRun, Ends, Sends, SendsAll, SendsFront, PutsAnswers, Serves}
 use Rattle.dv_session.proofs.RequestLemmas.{nothing_begun, begun_header}
 use Rattle.dv_session.proofs.ReadLemmas.{reads_none, reads_more}
 use Rattle.dv_session.proofs.PutsLemmas.{puts_none, puts_then}

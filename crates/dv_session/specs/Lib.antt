@@ -6,3 +6,6 @@ pub mod Splitting
 pub mod Answers
 pub mod Refusals
 pub mod Serving
+pub mod Steps
+pub mod Offices
+pub mod Replies

@@ -1,12 +1,12 @@
 -- A run of the server: what it took, what it sent, and how it ended.
-use Rattle.std.specs.Prelude.{◌≡◌, ◌≢◌, ◌⊎◌, ◌<◌, ◌≤◌, ◌^◌, ℕ, Bool, false, IsTrue, List, [], ◌∷◌, ◌++◌, length, take, drop, Option, Some, Result, Ok, Err}
+use Rattle.std.specs.Prelude.{◌≡◌, ◌≢◌, ◌⊎◌, ◌<◌, ◌≤◌, ◌^◌, ℕ, Bool, false, IsTrue, List, [], ◌∷◌, ◌++◌, length, take, drop, Option, Result, Ok, Err}
 use Rattle.std.specs.Option.{option_map}
 use Rattle.std.specs.List.{concat}
 use Rattle.dv_outside.specs.Station.{Content, Puts}
 use Rattle.dv_session.specs.declared.serving.End.{End}
 use Rattle.dv_session.specs.declared.serving.End.TheVariants.{Input, Read, Put, Memory, Refused, Limit}
 use Rattle.dv_session.specs.Requests.{Requests, HasNoHeader}
-use Rattle.dv_session.specs.Answers.{IsAnswer, Answers}
+use Rattle.dv_session.specs.Answers.{Answers}
 
 -- what a run took and sent: the octets of the source that were read, the requests in them, the octets after the last request,
 -- the octets that were taken when there was no memory to read them, and the answers that were sent whole

@@ -7,8 +7,8 @@ ghost use Rattle.dv_asn1.specs.Lists.{lists_of};
 ghost use Rattle.dv_session.specs.Requests.{IsRequest};
 ghost use Rattle.dv_session.specs.Serving.{HasTaken, read_octets, Serves, PutsAnswers};
 
-use crate::answer::answer;
 use crate::framer::Framer;
+use crate::notice::notice_to;
 use dv_outside::{Failed, Source, Station};
 use std::alloc::Global;
 
@@ -45,7 +45,7 @@ fn put_answers<V: Station>(alloc: Global, requests: &[Vec<u8>], station: &mut V)
     ensures tells { V.tells station.new ≡ V.tells station.old }
 {
     for request in requests {
-        let Ok(octets) = answer(alloc, request) else {
+        let Ok(octets) = notice_to(alloc, request) else {
             return Err(End::Memory);
         };
         match station.put(&octets) {

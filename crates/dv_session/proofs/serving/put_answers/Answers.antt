@@ -1,4 +1,4 @@
-use Rattle.std.proofs.Common.{◌≡◌, ◌<◌, ◌+◌, ◌∙◌, ◌∷◌, [], ◌++◌, List, ℕ, suc, length, drop, ap, sym, subst, arith, length-append}
+use Rattle.std.proofs.Common.{◌+◌, ◌∙◌, ◌∷◌, [], ◌++◌, List, ℕ, drop, ap, sym, subst, arith, length-append}
 use Rattle.std.proofs.Common.{Vec}
 use Rattle.std.specs.declared.alloc.Global.{Global}
 use Rattle.std.proofs.lemmas.List.{length-map}
@@ -46,8 +46,8 @@ returns-in-Err-clause-puts g c =
           (c.in-Err.ensures.content (c.loop-request.invariant.tells ∙ told)) (answers_one (lists_of requests) so_far.0 _ _ _ next is),
     )
 
-pub answer-requires : goal.answer-requires
-answer-requires g c =
+pub notice_to-requires : goal.notice_to-requires
+notice_to-requires g c =
     let requests = c.args.requests.now in
     let item = drop_item requests c.loop-request.request-index c.request-item.result c.loop-request-test.true c.request-item.is in
     subst IsRequest (sym c.deref.ensures.value) (holds_at IsRequest (lists_of requests) c.loop-request.request-index c.request-item.result.items _ c.requires item)

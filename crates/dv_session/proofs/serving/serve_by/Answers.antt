@@ -1,11 +1,11 @@
-use Rattle.std.proofs.Common.{◌≡◌, ◌≢◌, ◌≤◌, ◌<◌, ◌+◌, ◌-◌, ◌^◌, ℕ, List, [], ◌∷◌, length, take, arith, refl, sym, ap, subst, ◌∙◌, false, true}
+use Rattle.std.proofs.Common.{◌≡◌, ◌≢◌, ◌+◌, ℕ, List, [], ◌∷◌, length, take, arith, refl, sym, ap, subst, ◌∙◌, false}
 use Rattle.std.proofs.Common.{eqb, Ok, Err, ⊎_elim}
 use Rattle.std.proofs.lemmas.Bool.Decides.{eqb_tells}
 use Rattle.std.proofs.lemmas.List.{length-take, length-take-le}
 use Rattle.dv_asn1.specs.Lists.{lists_of}
 use Rattle.dv_session.specs.Serving.{HasTaken}
-use Rattle.dv_session.specs.Progress.{Progress, start}
-use Rattle.dv_session.proofs.RunLemmas.{Going, going_none, going_on, going_more, takes_none, takes_then, serves_input, serves_cut, serves_refused, serves_read, serves_limit, serves_memory, serves_put, puts_same, is_stop}
+use Rattle.dv_session.specs.Progress.{Progress}
+use Rattle.dv_session.proofs.RunLemmas.{Going, going_none, going_on, going_more, serves_input, serves_cut, serves_refused, serves_read, serves_limit, serves_memory, serves_put, puts_same, is_stop}
 use Rattle.dv_session.proofs.serving.serve_by.Goals as goal
 
 -- a count of octets that isn't zero isn't the end

@@ -1,7 +1,7 @@
 use Rattle.std.proofs.Common.{refl}
 use Rattle.dv_request.specs.RequestView.{view_request}
 use Rattle.dv_session.specs.Answers.{request_in}
-use Rattle.dv_session.proofs.answer.refusal_of_content.Goals as goal
+use Rattle.dv_session.proofs.notice.refusal_of_content.Goals as goal
 
 pub returns-in-Ok-clause-is : goal.returns-in-Ok-clause-is
 returns-in-Ok-clause-is c =

@@ -1,6 +1,6 @@
 use Rattle.dv_session.specs.Refusals.{carried_by}
 use Rattle.dv_session.proofs.MessageLemmas.{read_failure, unread_failure}
-use Rattle.dv_session.proofs.answer.refusal_of.Goals as goal
+use Rattle.dv_session.proofs.notice.refusal_of.Goals as goal
 
 pub returns-in-Ok-clause-is : goal.returns-in-Ok-clause-is
 returns-in-Ok-clause-is c =

@@ -1,22 +1,18 @@
-//! What a request is answered.
+//! The notice of the first step that refuses a request.
 ghost use Rattle.std.specs.Prelude.{◌≡◌, ◌≤◌, ◌<◌, ◌^◌, [], IfOk, length};
 ghost use Rattle.dv_cert.specs.Notice.{notice_of};
-ghost use Rattle.dv_request.specs.DataView.{view_data};
-ghost use Rattle.dv_request.specs.Information.{number_of};
 ghost use Rattle.dv_request.specs.RequestView.{view_request};
-ghost use Rattle.dv_session.specs.Answers.{failure_of as failure, HasFailure, HasInfoFailure, IsAnswer, takes as takes_data};
+ghost use Rattle.dv_session.specs.Answers.{failure_of as failure, HasFailure, HasInfoFailure, IsAnswer};
 ghost use Rattle.dv_session.specs.Refusals.{carried_by};
 ghost use Rattle.dv_session.specs.Requests.{IsRequest};
 
+use crate::steps::{VERSION, takes};
 use dv_asn1::Writer;
 use dv_cert::{notice_bytes, notice_len};
 use dv_cms::{ContentInfo, SIGNED_DATA_TYPE};
-use dv_request::{Data, REQUEST_DATA_TYPE, Request, RequestTime, Service};
+use dv_request::{REQUEST_DATA_TYPE, Request, RequestTime};
 use dv_status::failure::{BAD_DATA_FORMAT, BAD_REQUEST, BAD_TIME, SYSTEM_UNAVAIL};
 use std::alloc::{AllocError, Global};
-
-/// The only version of a request that is served.
-const VERSION: u8 = 1;
 
 /// What the notice to a request says: its failure bit (RFC 4210, section 5.2.3), and the request's transactionIdentifier, the
 /// whole GeneralName, where the notice carries one.
@@ -24,18 +20,6 @@ const VERSION: u8 = 1;
 struct Refusal<'a> {
     bit: u8,
     transaction: Option<&'a [u8]>,
-}
-
-/// Whether the service takes such data.
-fn takes(service: Service, data: &Data<'_>) -> bool
-    ensures { result ≡ takes_data (number_of service) (view_data data.now) }
-{
-    match (service, data) {
-        (Service::Cpd | Service::Vsd, Data::Message(_)) => true,
-        (Service::Ccpd, Data::Imprint(_)) => true,
-        (Service::Cpkc, Data::Certs { .. }) => true,
-        _ => false,
-    }
 }
 
 /// The failure bit of a request: that of the first step that refuses it.
@@ -119,8 +103,8 @@ fn fill_notice(into: &mut [u8], refusal: &Refusal<'_>)
     notice_bytes(refusal.transaction, refusal.bit, &mut out);
 }
 
-/// The answer to a request.
-pub(crate) fn answer(alloc: Global, request: &[u8]) -> Result<Vec<u8>, AllocError>
+/// The notice to a request.
+pub(crate) fn notice_to(alloc: Global, request: &[u8]) -> Result<Vec<u8>, AllocError>
     requires { IsRequest request.now }
     ensures { IfOk result (λ octets. IsAnswer request.now octets.items) }
 {

@@ -1,9 +1,8 @@
-use Rattle.std.proofs.Common.{◌≡◌, List, ℕ, sym, subst, rules, arith}
-use Rattle.std.proofs.lemmas.Grind.{common_steps}
+use Rattle.std.proofs.Common.{◌≡◌, List, ℕ, sym, subst, rules}
 use Rattle.dv_request.specs.Request.{request_data_type}
 use Rattle.dv_session.specs.Answers.{HasInfoFailure}
 use Rattle.dv_session.specs.Refusals.{carried_by}
-use Rattle.dv_session.proofs.answer.refusal_of_message.Goals as goal
+use Rattle.dv_session.proofs.notice.refusal_of_message.Goals as goal
 
 pub returns-then-eq-clause-is : goal.returns-then-eq-clause-is
 returns-then-eq-clause-is c =
