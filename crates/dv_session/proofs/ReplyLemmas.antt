@@ -64,35 +64,43 @@ request_reply content moment server v (Err e) fit spelled answered carried = tt
 
 -- ---- the steps
 
-module _ (server : Server) (moment : ℕ) (v : ValueOf dvcs_request) (office : Office) (is : IsOffice server office) where
-  -- the form of the request has a failure
-  pub form_refuses : (bit : ℕ) → Some bit ≡ form_failure v → IsAnswerOf server moment v (Notice bit)
-  form_refuses bit e = (
-    office,
-    is,
-    subst (λ (o : Option ℕ). IsAnswerWith (first_of (o ∷ office_failure office v ∷ data_failure v.1.0 ∷ time_failure office moment ∷ [])) v moment server.policy (Notice bit)) e refl,
-  )
+-- the first of two failures is the first of more
+step_is_first : (a b c d : Option ℕ) (bit : ℕ) → Some bit ≡ first_of (a ∷ b ∷ []) → Some bit ≡ first_of (a ∷ b ∷ c ∷ d ∷ [])
+step_is_first None None c d bit e = absurd (cc)
+step_is_first None (Some x) c d bit e = e
+step_is_first (Some x) b c d bit e = e
 
-  -- or what it asks of the server
-  pub office_refuses : (bit : ℕ) → form_failure v ≡ None → Some bit ≡ office_failure office v → IsAnswerOf server moment v (Notice bit)
-  office_refuses bit passed e = (
+-- where there are none of the two, it is the first of the others
+steps_pass : (a b c d : Option ℕ) → None ≡ first_of (a ∷ b ∷ []) → first_of (c ∷ d ∷ []) ≡ first_of (a ∷ b ∷ c ∷ d ∷ [])
+steps_pass None None c d e = refl
+steps_pass None (Some x) c d e = absurd (cc)
+steps_pass (Some x) b c d e = absurd (cc)
+
+pub form_passes : (a b : Option ℕ) → None ≡ first_of (a ∷ b ∷ []) → a ≡ None
+form_passes None b e = refl
+form_passes (Some x) b e = absurd (cc)
+
+module _ (server : Server) (moment : ℕ) (v : ValueOf dvcs_request) (office : Office) (is : IsOffice server office) where
+  -- what a request is answered where its form refuses it, or what it asks of the server
+  pub step_refuses : (bit : ℕ) → Some bit ≡ first_of (form_failure v ∷ office_failure office v ∷ []) → IsAnswerOf server moment v (Notice bit)
+  step_refuses bit e = (
     office,
     is,
-    subst (λ (o : Option ℕ). IsAnswerWith (first_of (o ∷ office_failure office v ∷ data_failure v.1.0 ∷ time_failure office moment ∷ [])) v moment server.policy (Notice bit)) (sym passed)
-        (subst (λ (o : Option ℕ). IsAnswerWith (first_of (o ∷ data_failure v.1.0 ∷ time_failure office moment ∷ [])) v moment server.policy (Notice bit)) e refl),
+    subst (λ (o : Option ℕ). IsAnswerWith o v moment server.policy (Notice bit))
+        (step_is_first (form_failure v) (office_failure office v) (data_failure v.1.0) (time_failure office moment) bit e) refl,
   )
 
   -- or neither, and the answer is that of the last two steps
-  pub both_pass : (valid : Bool) (r : Result Answer AllocError) → form_failure v ≡ None → office_failure office v ≡ None → valid ≡ is_valid_at office moment
+  pub both_pass : (valid : Bool) (r : Result Answer AllocError) → None ≡ first_of (form_failure v ∷ office_failure office v ∷ []) → valid ≡ is_valid_at office moment
       → IfOk r (IsAnswerWith (first_of (data_failure v.1.0 ∷ (if valid then None else Some 14) ∷ [])) v moment server.policy) → IfOk r (IsAnswerOf server moment v)
-  both_pass valid (Ok answer) passed also holds h = (
+  both_pass valid (Ok answer) passed holds h = (
     office,
     is,
-    subst (λ (o : Option ℕ). IsAnswerWith (first_of (o ∷ office_failure office v ∷ data_failure v.1.0 ∷ time_failure office moment ∷ [])) v moment server.policy answer) (sym passed)
-        (subst (λ (o : Option ℕ). IsAnswerWith (first_of (o ∷ data_failure v.1.0 ∷ time_failure office moment ∷ [])) v moment server.policy answer) (sym also)
-        (subst (λ (b : Bool). IsAnswerWith (first_of (data_failure v.1.0 ∷ (if b then None else Some 14) ∷ [])) v moment server.policy answer) holds h)),
+    subst (λ (o : Option ℕ). IsAnswerWith o v moment server.policy answer)
+        (steps_pass (form_failure v) (office_failure office v) (data_failure v.1.0) (time_failure office moment) passed)
+        (subst (λ (b : Bool). IsAnswerWith (first_of (data_failure v.1.0 ∷ (if b then None else Some 14) ∷ [])) v moment server.policy answer) holds h),
   )
-  both_pass valid (Err e) passed also holds h = tt
+  both_pass valid (Err e) passed holds h = tt
 
 -- ---- the draft
 

@@ -8,7 +8,8 @@ ghost use Rattle.dv_request.specs.Request.{request_data_type};
 ghost use Rattle.dv_draft.specs.Types.{draft as draft_type};
 ghost use Rattle.dv_svc_possession.specs.Answered.{IsAnswer};
 ghost use Rattle.dv_session.specs.Replies.{IsAnswerOf, IsAnswerWith, IsContentReply, IsReply, SaysSame};
-ghost use Rattle.dv_session.specs.Steps.{data_failure, first_of, form_failure as failure_of_form};
+ghost use Rattle.dv_session.specs.Offices.{view_office};
+ghost use Rattle.dv_session.specs.Steps.{data_failure, first_of, form_failure as failure_of_form, office_failure as failure_at_office};
 
 use crate::office::Office;
 use crate::steps::{form_failure, office_failure};
@@ -147,13 +148,17 @@ fn answer_to_request(
     ensures { IfOk result (IsAnswerOf server.now moment (view_request request.now)) }
 {
     let office = Office::of(server);
-    if let Some(bit) = form_failure(request) {
-        return Ok(Answer::Notice { bit });
+    match step_failure(&office, request) {
+        Some(bit) => Ok(Answer::Notice { bit }),
+        None => draft(alloc, request, moment, server, office.is_valid_at(moment)),
     }
-    if let Some(bit) = office_failure(&office, request) {
-        return Ok(Answer::Notice { bit });
-    }
-    draft(alloc, request, moment, server, office.is_valid_at(moment))
+}
+
+/// The failure bit of the first step that refuses a request by its form or by what it asks of the server.
+fn step_failure(office: &Office<'_>, request: &Request<'_>) -> Option<u8>
+    ensures { result ≡ first_of (failure_of_form (view_request request.now) ∷ failure_at_office (view_office office.now) (view_request request.now) ∷ []) }
+{
+    form_failure(request).or(office_failure(office, request))
 }
 
 /// The answer to a request that isn't refused by its form or by what it asks of the server; `is_valid` says whether the
