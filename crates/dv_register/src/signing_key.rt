@@ -1,6 +1,6 @@
 //! The key of a register, and the leaves that it signs with.
-ghost use Rattle.std.specs.Prelude.{◌≡◌, ◌<◌};
-ghost use Rattle.dv_lms.specs.Height.{leaf_count};
+ghost use Rattle.std.specs.Prelude.{◌≡◌, ◌<◌, length};
+ghost use Rattle.dv_lms.specs.Height.{leaf_count, signature_len};
 ghost use Rattle.dv_lms.specs.Signed.{public_of, signature_of};
 ghost use Rattle.dv_register.specs.SigningKey.{LeafState, SlotState};
 
@@ -47,7 +47,8 @@ impl SigningKey {
     /// The signature of a message with a leaf, which is spent (RFC 8554 6.2). It takes no memory.
     pub fn sign(&self, leaf: Leaf, message: &[u8]) -> Signature
         requires { leaf.key ≡ self.now }
-        ensures { result ≡ signature_of self.now leaf.number message.now }
+        ensures octets { result ≡ signature_of self.now leaf.number message.now }
+        ensures len { length result ≡ signature_len self.now.height }
     {
         self.key.sign(leaf.number, message)
     }
