@@ -1,0 +1,3 @@
+mod CertificateLists
+mod Nexts
+mod Seeds
