@@ -1,4 +1,3 @@
 pub mod Lines
 pub mod Putting
 pub mod RequestLemmas
-pub mod ShowLemmas

@@ -1,5 +1,4 @@
 pub mod Line
 pub mod Server
-pub mod Show
 pub mod Status
 pub mod Tool

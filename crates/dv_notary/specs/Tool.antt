@@ -9,7 +9,7 @@ use Rattle.dv_notary.specs.declared.line.Service.{Service}
 use Rattle.dv_notary.specs.declared.line.Service.TheVariants.{Cpd, Vsd, Ccpd}
 use Rattle.dv_notary.specs.declared.line.nonce.Nonce.{Nonce}
 use Rattle.dv_notary.specs.Line.{nonce_octets}
-use Rattle.dv_notary.specs.Show.{ShowOf}
+use Rattle.dv_show.specs.Show.{ShowOf}
 
 -- the statuses with which a command ends so far
 abbrev pub IsStatus : ℕ → Type 0

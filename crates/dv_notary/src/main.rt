@@ -11,7 +11,6 @@
 
 mod line;
 mod server;
-mod show;
 mod status;
 mod tool;
 mod usage;

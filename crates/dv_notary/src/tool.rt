@@ -5,7 +5,7 @@ ghost use Rattle.dv_outside.specs.Shelf.{IsLongerThan};
 ghost use Rattle.dv_outside.specs.Station.{Spends};
 ghost use Rattle.dv_notary.specs.declared.line.Service.{Service};
 ghost use Rattle.dv_notary.specs.Line.{line_of, tool_line, texts_of, told_by, request as request_line, serve as serve_line, show as show_line};
-ghost use Rattle.dv_notary.specs.Show.{IsNotShown};
+ghost use Rattle.dv_show.specs.Show.{IsNotShown};
 ghost use Rattle.dv_notary.specs.Status.{number_of};
 ghost use Rattle.dv_notary.specs.Tool.{IsStatus, PutsRequest, PutsShown, file_limit};
 
@@ -126,7 +126,7 @@ fn run_line<V: Station, F: Shelf, E: Diag>(
 /// |---|---|
 /// | 0 | the request for the file, or a line for each of its values, was put |
 /// | 2 | exactly where the words are no line of such a command |
-/// | 3 | exactly where the file is longer than the limit, or for `show` isn't unsigned requests one after another |
+/// | 3 | exactly where the file is longer than the limit, or for `show` isn't unsigned requests and notices one after another |
 /// | 5 | only where the station's count of failed puts rose in this call |
 /// | 8 | want of memory |
 /// | 10 | only where the shelf's count of faults rose in this call |

@@ -2,14 +2,14 @@
 ghost use Rattle.std.specs.Prelude.{◌≡◌, ◌≢◌, ◌⊎◌, ◌≤◌, IfSome};
 ghost use Rattle.dv_outside.specs.Causes.{Rose};
 ghost use Rattle.dv_outside.specs.Station.{Spends};
-ghost use Rattle.dv_notary.specs.Show.{IsNotShown};
+ghost use Rattle.dv_show.specs.Show.{IsNotShown};
 ghost use Rattle.dv_notary.specs.Status.{number_of};
 ghost use Rattle.dv_notary.specs.Tool.{IsStatus, PutsShown};
 
 use super::{refused, say};
-use crate::show::{ShowFault, show_values};
 use crate::status::Status;
 use dv_outside::{Diag, Shelf, ShelfRefusal, Station};
+use dv_show::{ShowFault, show_values};
 use std::alloc::Global;
 
 /// The most octets of a file that is shown.

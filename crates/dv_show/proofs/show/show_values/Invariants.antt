@@ -1,6 +1,6 @@
 use Rattle.std.specs.String.{string_bytes}
-use Rattle.dv_notary.proofs.ShowLemmas.{Showing}
-use Rattle.dv_notary.proofs.show.show_values.Given as goal
+use Rattle.dv_show.proofs.ShowLemmas.{Showing}
+use Rattle.dv_show.proofs.show.show_values.Given as goal
 use Rattle.std.proofs.Common.{length}
 
 abbrev pub invariant-values : goal.invariant-values

@@ -1,9 +1,8 @@
 use Rattle.std.proofs.Common.{◌≡◌, ◌++◌, List, ℕ, true≢false, sym}
 use Rattle.std.specs.String.{string_bytes}
-use Rattle.dv_request.specs.declared.service.Service.{Service}
-use Rattle.dv_notary.specs.Show.{IsRequest}
-use Rattle.dv_notary.proofs.ShowLemmas.{not_shown, showing_more, shown_all}
-use Rattle.dv_notary.proofs.show.show_values.Goals as goal
+use Rattle.dv_show.proofs.LengthLemmas.{text_is_short}
+use Rattle.dv_show.proofs.ShowLemmas.{not_shown, showing_more, shown_all}
+use Rattle.dv_show.proofs.show.show_values.Goals as goal
 
 pub returns-in-Err-clause-refused : goal.returns-in-Err-clause-refused
 returns-in-Err-clause-refused c = λ _.
@@ -12,7 +11,7 @@ returns-in-Err-clause-refused c = λ _.
 
 pub returns-then-at_end-clause-shown : goal.returns-then-at_end-clause-shown
 returns-then-at_end-clause-shown c =
-    shown_all c.args.octets.now c.values.rest (string_bytes c.values.text) c.values.invariant c.in-Ok.service c.next_request.new.c (string_bytes c.push_line.new.text)
+    shown_all c.args.octets.now c.values.rest (string_bytes c.values.text) c.values.invariant c.in-Ok.value c.next_value.new.c (string_bytes c.push_line.new.text)
     (record {
       found = c.in-Ok.ensures.found;
       only = λ s octets rest q e. (c.in-Ok.ensures.only s octets rest q e).1;
@@ -21,9 +20,12 @@ returns-then-at_end-clause-shown c =
     })
     c.in-Ok-push_line.ensures c.if-at_end.ensures
 
+pub returns-then-at_end-clause-short : goal.returns-then-at_end-clause-short
+returns-then-at_end-clause-short c = text_is_short c.args.octets.now (string_bytes c.push_line.new.text) (returns-then-at_end-clause-shown c)
+
 pub values-preserved : goal.values-preserved
 values-preserved c =
-    showing_more c.args.octets.now c.values.rest (string_bytes c.values.text) c.values.invariant c.in-Ok.service c.next_request.new.c (string_bytes c.push_line.new.text)
+    showing_more c.args.octets.now c.values.rest (string_bytes c.values.text) c.values.invariant c.in-Ok.value c.next_value.new.c (string_bytes c.push_line.new.text)
     (record {
       found = c.in-Ok.ensures.found;
       only = λ s octets rest q e. (c.in-Ok.ensures.only s octets rest q e).1;

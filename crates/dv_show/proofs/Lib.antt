@@ -1,0 +1,4 @@
+pub mod LengthLemmas
+pub mod LineLemmas
+pub mod ShowLemmas
+pub mod ValueLemmas
