@@ -12,3 +12,6 @@ pub mod StepLemmas
 pub mod PolicyLemmas
 pub mod ReplyLemmas
 pub mod OneReply
+pub mod RecordLengths
+pub mod IssuingLemmas
+pub mod GivenLemmas

@@ -3,6 +3,7 @@ pub mod Headers
 pub mod Progress
 pub mod Feeding
 pub mod Splitting
+pub mod Issuing
 pub mod Answers
 pub mod Refusals
 pub mod Serving

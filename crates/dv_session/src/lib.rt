@@ -21,6 +21,7 @@
 
 mod framer;
 mod front;
+mod issuing;
 mod notice;
 mod office;
 mod reply;
@@ -29,5 +30,6 @@ mod steps;
 
 pub use framer::{Fed, Framer, any_pieces, one_split};
 pub use front::{Front, REQUEST_LIMIT, header, one_answer};
+pub use issuing::{Desk, Issued, issue_one};
 pub use reply::{Reply, answer, one_reply};
 pub use serving::{End, serve};
