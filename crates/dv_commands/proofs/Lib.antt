@@ -1,0 +1,4 @@
+pub mod SendingLemmas
+pub mod CertificateLemmas
+pub mod AnswerLemmas
+pub mod LifeLemmas
