@@ -1,0 +1,5 @@
+use Rattle.dv_walks.proofs.WalkLemmas.{GoesBy}
+use Rattle.dv_walks.proofs.walk.lowest_walk.Given as goal
+
+abbrev pub invariant-loop-place : goal.invariant-loop-place
+invariant-loop-place l = GoesBy l.graph l.row l.further l.start l.place l.node l.walk.items
