@@ -17,8 +17,7 @@ use Rattle.dv_x509.specs.declared.fault.X509.TheVariants.{Der as Refused, Versio
 use Rattle.dv_x509.specs.Judged.{certificate_front, certificate_in, judged_if}
 use Rattle.dv_x509.specs.Types.{certificate, certificate_fields}
 use Rattle.dv_draft.specs.Records.{IsCertificate, certificate_at, kept_at}
-use Rattle.dv_files.specs.declared.faults.CertificateFile.{CertificateFile}
-use Rattle.dv_files.specs.Certificates.{IsNext, IsPlaceOf}
+use Rattle.dv_files.specs.Certificates.{HasNone, IsNext, IsPlaceOf}
 
 -- what the laws of the grammar say
 abbrev pub SpelledWhereRead : Type 0
@@ -188,7 +187,7 @@ next_found spelled_law read_law whole_law p octets q bytes deep e =
 
 -- where reading is refused, no certificate is next
 pub none_next : ReadWhereSpelled → WholeWhereSpelled → (p : Spot) (place : ℕ) → IsBytes p.rest → 0 < p.levels → IsPlaceOf (certificate_at p) place
-    → (octets rest : List ℕ) → IsCertificate octets → p.rest ≡ octets ++ rest → ⊥
+    → HasNone p
 none_next read_law whole_law p place bytes deep e octets rest ok is =
     let here = certificate_read read_law whole_law p octets rest bytes deep is ok in
     let refused = e.1 in
@@ -225,6 +224,6 @@ own_place place Algorithm h octets = (record { place = place; why = Value }, ref
 own_place place TooLong h octets = (record { place = place; why = Value }, refl, λ small. refl)
 
 -- what holds of an error holds of the one that a `?` gives back
-pub told : {X : Type 0} (r : Result X CertificateFile) (e : CertificateFile) (P : CertificateFile → Type 0) → IsErr r × IsErrAnd r (λ x. x ≡ e) → P e → IfErr r P
+pub told : {X E : Type 0} (r : Result X E) (e : E) (P : E → Type 0) → IsErr r × IsErrAnd r (λ x. x ≡ e) → P e → IfErr r P
 told (Ok x) e P h p = tt
 told (Err x) e P h p = subst P (sym h.1) p

@@ -1,18 +1,20 @@
--- The octets of certificate files.
-use Rattle.std.specs.Prelude.{◌≡◌, ◌≢◌, ◌+◌, ◌<◌, ◌≤◌, ◌^◌, ℕ, List, [], ◌++◌, length, All, Result, Err}
+-- Octets that are certificates, one after another.
+use Rattle.std.specs.Prelude.{◌≡◌, ◌≢◌, ◌+◌, ◌<◌, ◌≤◌, ◌^◌, ◌⊎◌, ℕ, List, [], ◌++◌, length, All, Result, Err}
 use Rattle.std.specs.List.{concat}
 use Rattle.dv_schema.specs.declared.refusal.Der.{Der}
 use Rattle.dv_schema.specs.Reading.{Spot}
 use Rattle.dv_draft.specs.Records.{IsCertificate, certificate_at}
-use Rattle.dv_files.specs.declared.faults.CertificateFile.{CertificateFile}
-use Rattle.dv_files.specs.declared.faults.CertificateFile.TheVariants.{Refused, Memory}
 
--- The octets are 1 to 6 certificates (RFC 5280 4.1), each under tag 30, one after another.
-pub record AreCertificates (octets : List ℕ) (certificates : List (List ℕ)) : Type 0 where
+-- The octets are 1 to so many certificates (RFC 5280 4.1), each under tag 30, one after another.
+pub record AreCertificatesUpTo (limit : ℕ) (octets : List ℕ) (certificates : List (List ℕ)) : Type 0 where
   pub some : 1 ≤ length certificates
-  pub few : length certificates ≤ 6
+  pub few : length certificates ≤ limit
   pub decoded : All IsCertificate certificates
   pub joined : octets ≡ concat certificates
+
+-- the octets are a certificate file: 1 to 6 of them
+abbrev pub AreCertificates : List ℕ → List (List ℕ) → Type 0
+AreCertificates octets certificates = AreCertificatesUpTo 6 octets certificates
 
 -- the spot behind the certificates at the front of a file
 abbrev pub behind_of : List (List ℕ) → List ℕ → Spot
@@ -22,32 +24,31 @@ behind_of front behind = record { levels = 32; place = length (concat front); re
 abbrev pub IsPlaceOf : {A : Type 0} → Result A Der → ℕ → Type 0
 IsPlaceOf r place = (d : Der) × (r ≡ Err d) × (d.place < 2 ^ 64 → place ≡ d.place)
 
--- Why a file doesn't go on as it should behind the certificates at its front: what follows is refused as a certificate, or it
--- would be a seventh one.
-pub data IsNoNext (front : List (List ℕ)) (behind : List ℕ) (place : ℕ) : Type 0 where
-  no_certificate : length front < 6 → IsPlaceOf (certificate_at (behind_of front behind)) place → IsNoNext front behind place
-  one_too_many : length front ≡ 6 → behind ≢ [] → place ≡ length (concat front) → IsNoNext front behind place
-
--- The octets are no certificates, one after another, by the octet at this place.
-pub record IsCertificateFault (octets : List ℕ) (place : ℕ) : Type 0 where
-  pub none : (certificates : List (List ℕ)) → AreCertificates octets certificates → ⊥
+-- The octets are certificates, fewer than so many, and behind them no certificate, by the check that fails at this place.
+pub record HasNoNext (limit : ℕ) (octets : List ℕ) (place : ℕ) : Type 0 where
   pub front : List (List ℕ)
   pub behind : List ℕ
+  pub few : length front < limit
   pub decoded : All IsCertificate front
   pub is : octets ≡ concat front ++ behind
-  pub cause : IsNoNext front behind place
+  pub refused : IsPlaceOf (certificate_at (behind_of front behind)) place
 
--- what a refusal says of the octets; a want of memory says nothing
-abbrev pub IsCertificateCause : List ℕ → CertificateFile → Type 0
-IsCertificateCause octets (Refused place) = IsCertificateFault octets place
-IsCertificateCause octets Memory = Unit {0}
+-- The octets are so many certificates, and behind them, at this place, more octets.
+pub record HasMore (limit : ℕ) (octets : List ℕ) (at : ℕ) : Type 0 where
+  pub front : List (List ℕ)
+  pub behind : List ℕ
+  pub many : length front ≡ limit
+  pub decoded : All IsCertificate front
+  pub is : octets ≡ concat front ++ behind
+  pub more : behind ≢ []
+  pub place : at ≡ length (concat front)
+
+-- The octets aren't 1 to so many certificates, by this.
+pub record AreNone (limit : ℕ) (octets : List ℕ) (Cause : Type 0) : Type 0 where
+  pub none : (certificates : List (List ℕ)) → AreCertificatesUpTo limit octets certificates → ⊥
+  pub cause : Cause
 
 -- ---- reading them
-
--- a refusal has the place at which reading was refused, and isn't a want of memory
-abbrev pub IsRefusalOf : {A : Type 0} → Result A Der → CertificateFile → Type 0
-IsRefusalOf r (Refused place) = IsPlaceOf r place
-IsRefusalOf r Memory = ⊥
 
 -- A certificate stands at the spot p, no other one does, and the spot q stands behind it.
 pub record IsNext (p : Spot) (octets : List ℕ) (q : Spot) : Type 0 where
@@ -56,3 +57,18 @@ pub record IsNext (p : Spot) (octets : List ℕ) (q : Spot) : Type 0 where
   pub place : q.place ≡ p.place + length octets
   pub levels : q.levels ≡ p.levels
   pub only : (other rest : List ℕ) → IsCertificate other → p.rest ≡ other ++ rest → other ≡ octets
+
+-- no certificate stands at the spot
+abbrev pub HasNone : Spot → Type 0
+HasNone p = (octets rest : List ℕ) → IsCertificate octets → p.rest ≡ octets ++ rest → ⊥
+
+-- These certificates were read from the front of the octets, at most so many, and the spot q stands behind them: each list of
+-- certificates that the octets are begins with them.
+pub record AreSoFar (limit : ℕ) (octets : List ℕ) (seen : List (List ℕ)) (q : Spot) : Type 0 where
+  pub few : length seen ≤ limit
+  pub decoded : All IsCertificate seen
+  pub is : octets ≡ concat seen ++ q.rest
+  pub place : q.place ≡ length (concat seen)
+  pub levels : q.levels ≡ 32
+  pub goes_on : (seen ≡ []) ⊎ (q.rest ≢ [])
+  pub only : (certificates : List (List ℕ)) → AreCertificatesUpTo limit octets certificates → (more : List (List ℕ)) × (certificates ≡ seen ++ more)

@@ -1,3 +1,4 @@
+pub mod Causes
 pub mod Certificates
 pub mod Keys
 pub mod Seed

@@ -1,11 +1,14 @@
 //! Certificate files.
 
-ghost use Rattle.std.specs.Prelude.{◌≡◌, ◌<◌, ◌++◌, ◌∷◌, [], Err, IfErr, IfOk, OnErr, OnOk, List, ℕ};
+ghost use Rattle.std.specs.Prelude.{◌≡◌, ◌<◌, ◌++◌, ◌∷◌, [], Err, IfErr, IfOk, Ok, OnErr, OnOk, List, ℕ};
 ghost use Rattle.dv_asn1.specs.Lists.{lists_of};
-ghost use Rattle.dv_draft.specs.Records.{IsCertificate, certificate_at, kept_at};
-ghost use Rattle.dv_files.specs.Certificates.{AreCertificates, IsCertificateCause, IsNext, IsPlaceOf, IsRefusalOf};
+ghost use Rattle.dv_x509.specs.Judged.{certificate_in};
+ghost use Rattle.dv_x509.specs.View.{view_certificate};
+ghost use Rattle.dv_draft.specs.Records.{certificate_at, kept_at};
+ghost use Rattle.dv_files.specs.Certificates.{AreCertificates, HasNone, IsNext, IsPlaceOf};
+ghost use Rattle.dv_files.specs.Causes.{IsCertificateCause};
 
-use crate::faults::CertificateFile;
+use crate::faults::{CertificateFile, NoCertificate};
 use dv_asn1::Cursor;
 use dv_schema::laws;
 use dv_x509::{Certificate, X509};
@@ -29,8 +32,11 @@ pub fn read_certificates(alloc: Global, octets: &[u8]) -> Result<Vec<Vec<u8>>, C
     let mut next = Cursor::new(octets);
     let mut certificates = Vec::new(alloc);
     while certificates.len() < CERTIFICATE_COUNT_LIMIT {
-        let certificate = next_certificate(&mut next)?;
-        keep(alloc, &mut certificates, certificate)?;
+        let octets = match next_certificate(&mut next) {
+            Err(NoCertificate { place }) => return Err(CertificateFile::Refused { place }),
+            Ok((octets, _)) => octets,
+        };
+        keep(alloc, &mut certificates, octets)?;
         if next.at_end() {
             return Ok(certificates);
         }
@@ -49,13 +55,21 @@ fn keep(alloc: Global, certificates: &mut Vec<Vec<u8>>, octets: &[u8]) -> Result
     Ok(())
 }
 
-/// The octets of the certificate at the cursor, which then stands behind it: no other one begins what was left. Where it is
-/// refused, none does.
-fn next_certificate<'a>(c: &mut Cursor<'a>) -> Result<&'a [u8], CertificateFile>
+/// The certificate at the cursor (RFC 5280 4.1), under tag 30, with its octets; the cursor then stands behind it. No other
+/// certificate begins what was left.
+///
+/// [`NoCertificate`] comes exactly where no certificate begins what is left, and the cursor is then where it was. Its place
+/// is that of the first check that fails: where `Certificate::decode` refuses the value that stands there, the place of its
+/// refusal, or the value's own where the cause is another one.
+pub fn next_certificate<'a>(
+    c: &mut Cursor<'a>,
+) -> Result<(&'a [u8], Certificate<'a>), NoCertificate>
     requires { 0 < c.old.levels }
-    ensures found { IfOk result (λ x. IsNext c.old x.now c.new) }
-    ensures refused { IfErr result (IsRefusalOf (certificate_at c.old)) }
-    ensures none { OnErr result ((octets rest : List ℕ) → IsCertificate octets → c.old.rest ≡ octets ++ rest → ⊥) }
+    ensures found { IfOk result (λ x. IsNext c.old x.0.now c.new) }
+    ensures decoded { IfOk result (λ x. certificate_in 48 x.0.now ≡ Ok (view_certificate x.1)) }
+    ensures refused { IfErr result (λ e. IsPlaceOf (certificate_at c.old) e.place) }
+    ensures none { OnErr result (HasNone c.old) }
+    ensures stays { OnErr result (c.new ≡ c.old) }
 {
     // A certificate is the spelling of one value, and no spelling begins another one.
     laws::read_is_spelled();
@@ -64,12 +78,16 @@ fn next_certificate<'a>(c: &mut Cursor<'a>) -> Result<&'a [u8], CertificateFile>
     let mut next = c.fork();
     next.enter(SEQUENCE)?;
     let octets = c.up_to(&next);
-    if let Err(cause) = Certificate::decode(octets, SEQUENCE) {
-        let place = place_of(c.place(), cause);
-        return Err(CertificateFile::Refused { place });
+    match Certificate::decode(octets, SEQUENCE) {
+        Err(cause) => {
+            let place = place_of(c.place(), cause);
+            Err(NoCertificate { place })
+        }
+        Ok(certificate) => {
+            *c = next;
+            Ok((octets, certificate))
+        }
     }
-    *c = next;
-    Ok(octets)
 }
 
 /// The place in the file of the refusal of a certificate that stands at this place.

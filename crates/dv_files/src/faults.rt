@@ -29,6 +29,26 @@ impl From<AllocError> for SeedFile {
     }
 }
 
+/// Why no certificate stands where one is read.
+#[derive(Clone, Copy, Debug, PartialEq, Eq, Error)]
+#[error("no certificate: octet {place}")]
+pub struct NoCertificate {
+    /// The octet of the first check that fails, counted from 0.
+    pub place: u64,
+}
+
+impl From<Der> for NoCertificate {
+    ghost use Rattle.std.specs.Prelude.{◌≡◌};
+
+    ghost from_gives = { λ d e. e ≡ record { place = d.place } };
+
+    fn from(refusal: Der) -> NoCertificate {
+        NoCertificate {
+            place: refusal.place,
+        }
+    }
+}
+
 /// Why a certificate file isn't read.
 #[derive(Clone, Copy, Debug, PartialEq, Eq, Error)]
 pub enum CertificateFile {
@@ -41,19 +61,6 @@ pub enum CertificateFile {
     /// Want of memory.
     #[error("out of memory")]
     Memory,
-}
-
-impl From<Der> for CertificateFile {
-    ghost use Rattle.std.specs.Prelude.{◌≡◌};
-    ghost use Rattle.dv_files.specs.declared.faults.CertificateFile.TheVariants.{Refused};
-
-    ghost from_gives = { λ d e. e ≡ Refused d.place };
-
-    fn from(refusal: Der) -> CertificateFile {
-        CertificateFile::Refused {
-            place: refusal.place,
-        }
-    }
 }
 
 impl From<AllocError> for CertificateFile {
