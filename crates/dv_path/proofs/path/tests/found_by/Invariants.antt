@@ -1,0 +1,5 @@
+use Rattle.dv_path.proofs.path.tests.found_by.Given as goal
+
+-- the ledger that counts these verifications
+abbrev pub ghosts-searched : goal.ghosts-searched
+ghosts-searched a = record { name = a.blank.name; parts = a.blank.parts }
