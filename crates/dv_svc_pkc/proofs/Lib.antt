@@ -1,0 +1,11 @@
+mod Drafted
+mod Entered
+mod Failures
+mod Fitting
+mod Flattened
+mod Gained
+mod Gathered
+pub mod Lengths
+pub mod OneDraft
+mod Requested
+mod Searches
