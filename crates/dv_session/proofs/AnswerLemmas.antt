@@ -1,40 +1,15 @@
 -- Answers to requests, one after another.
-use Rattle.std.proofs.Common.{◌≡◌, ◌∙◌, ℕ, zero, suc, ◌<◌, List, [], ◌∷◌, ◌++◌, length, take, drop, sym, ap, subst, arith}
+use Rattle.std.proofs.Common.{◌≡◌, ◌∙◌, ℕ, ◌+◌, zero, suc, ◌<◌, List, [], ◌∷◌, ◌++◌, length, map, take, drop, refl, sym, ap, subst, arith}
+use Rattle.std.proofs.Common.{get_or, Vec}
 use Rattle.std.specs.List.{concat, AllByRecursion}
-use Rattle.std.proofs.Common.{get_or, append_assoc, Vec, Ok, Err}
-use Rattle.std.proofs.lemmas.List.{append-nil}
+use Rattle.std.proofs.lemmas.List.{map-append}
+use Rattle.std.proofs.lemmas.List.Folds.{concat-append}
 use Rattle.std.specs.declared.alloc.Global.{Global}
-use Rattle.dv_outside.specs.Station.{Content, Puts}
 use Rattle.dv_asn1.specs.Lists.{lists_of}
-use Rattle.dv_session.specs.Serving.{SendsAll, SendsFront}
-use Rattle.dv_outside.proofs.Moments.{sent_after}
-use Rattle.dv_session.proofs.PutsLemmas.{puts_then, puts_ok, puts_err}
-use Rattle.dv_session.specs.Answers.{IsAnswer, Answers}
+use Rattle.dv_session.specs.Issuing.{Book, Notary}
+use Rattle.dv_session.specs.Serving.{Answered, Answers, IsAnswer, pieces_of, told_for}
 
--- the first request behind those that were answered has an answer
-pub answers_next : (requests answers : List (List ℕ)) (request piece : List ℕ) (rest : List (List ℕ)) → Answers requests answers
-    → drop (length answers) requests ≡ request ∷ rest → IsAnswer request piece → Answers requests (answers ++ piece ∷ [])
-answers_next [] [] request piece rest so_far next is = absurd cc
-answers_next (r ∷ requests) [] request piece rest so_far next is =
-    let same : request ≡ r = cc in (subst (λ (l : List ℕ). IsAnswer l piece) same is, tt)
-answers_next [] (p ∷ answers) request piece rest so_far next is = absurd so_far
-answers_next (r ∷ requests) (p ∷ answers) request piece rest so_far next is =
-    (so_far.0, answers_next requests answers request piece rest so_far.1 next is)
-
--- answers to requests, and then to more of them
-pub answers_then : (requests more answers behind : List (List ℕ)) → Answers requests answers → length answers ≡ length requests → Answers more behind
-    → Answers (requests ++ more) (answers ++ behind)
-answers_then [] more [] behind one same two = two
-answers_then [] more (p ∷ answers) behind one same two = absurd one
-answers_then (r ∷ requests) more [] behind one same two = absurd (omega arith)
-answers_then (r ∷ requests) more (p ∷ answers) behind one same two =
-    (one.0, answers_then requests more answers behind one.1 (omega arith) two)
-
--- a request's own answer
-pub answers_one : (requests answers : List (List ℕ)) (request piece : List ℕ) (rest : List (List ℕ))
-    → drop (length answers) requests ≡ request ∷ rest → IsAnswer request piece → Answers (drop (length answers) requests) (piece ∷ [])
-answers_one requests answers request piece rest next is =
-    subst (λ (l : List (List ℕ)). Answers l (piece ∷ [])) (sym next) (is, tt)
+-- ---- lists of requests
 
 -- what stands from an index on begins with the item there
 pub drop_item : (xs : List (Vec ℕ Global)) (i : ℕ) (x : Vec ℕ Global) → i < length xs → x ≡ get_or xs i x → drop i (lists_of xs) ≡ x.items ∷ drop (suc i) (lists_of xs)
@@ -49,30 +24,54 @@ holds_at P [] (suc i) y rest all is = absurd cc
 holds_at P (x ∷ ys) zero y rest all is = let same : x ≡ y = cc in subst P same all.0
 holds_at P (x ∷ ys) (suc i) y rest all is = holds_at P ys i y rest all.1 is
 
-concat-push : (xs : List (List ℕ)) (y : List ℕ) → concat (xs ++ y ∷ []) ≡ concat xs ++ y
-concat-push [] y = append-nil y
-concat-push (x ∷ xs) y = ap (λ (l : List ℕ). x ++ l) (concat-push xs y) ∙ sym (append_assoc x (concat xs) y)
+-- the members before an index, the one there, and those behind it
+pub split_item : (ys : List (List ℕ)) (i : ℕ) (y : List ℕ) (rest : List (List ℕ)) → drop i ys ≡ y ∷ rest → ys ≡ take i ys ++ ((y ∷ []) ++ rest)
+split_item ys zero y rest is = is
+split_item [] (suc i) y rest is = absurd cc
+split_item (x ∷ ys) (suc i) y rest is = ap (λ (l : List (List ℕ)). x ∷ l) (split_item ys i y rest is)
 
--- an answer more was sent
-pub sends_next : {T E : Type 0} (x : T) (answers : List (List ℕ)) (octets piece : List ℕ) (a b c : Content) → SendsAll answers a b → octets ≡ piece
-    → Puts {T = T} {E = E} octets (Ok x) b c → SendsAll (answers ++ piece ∷ []) a c
-sends_next {T = T} {E = E} x answers octets piece a b c one same two =
-    let both = puts_then tt (Ok x) (concat answers) piece a b c one (subst (λ (o : List ℕ). Puts {T = T} {E = E} o (Ok x) b c) same two) in
-    subst (λ (o : List ℕ). Puts {T = Unit {0}} {E = Unit {0}} o (Ok tt) a c) (sym (concat-push answers piece))
-    (puts_ok x tt (concat answers ++ piece) a c both)
+take_item : (ys : List (List ℕ)) (i : ℕ) (y : List ℕ) (rest : List (List ℕ)) → drop i ys ≡ y ∷ rest → take (suc i) ys ≡ take i ys ++ y ∷ []
+take_item [] zero y rest is = absurd cc
+take_item [] (suc i) y rest is = absurd cc
+take_item (x ∷ ys) zero y rest is = let same : x ≡ y = cc in ap (λ (z : List ℕ). z ∷ []) same
+take_item (x ∷ ys) (suc i) y rest is = ap (λ (l : List (List ℕ)). x ∷ l) (take_item ys i y rest is)
 
--- the put of the next answer failed
-pub sends_front : {T E : Type 0} (e : E) (requests answers : List (List ℕ)) (octets piece : List ℕ) (a b c : Content) → SendsAll answers a b → octets ≡ piece
-    → Puts {T = T} {E = E} octets (Err e) b c → Answers (drop (length answers) requests) (piece ∷ []) → SendsFront requests answers a c
-sends_front {T = T} {E = E} e requests answers octets piece a b c one same cut is =
-    let two = subst (λ (o : List ℕ). Puts {T = T} {E = E} o (Err e) b c) same cut in
-    let both = puts_then tt (Err e) (concat answers) piece a b c one two in
-    let last = sent_after (Err e) piece b c two in
-    record {
-      next = piece;
-      is_answer = is;
-      count = last.0;
-      within = last.1;
-      sent = last.2 ∙ ap (λ (l : List ℕ). l ++ take last.0 piece) one.whole;
-      puts = puts_err e tt (concat answers ++ piece) a c both;
-    }
+pub take_next : (ys : List (List ℕ)) (i : ℕ) (y : List ℕ) (rest : List (List ℕ)) → drop i ys ≡ y ∷ rest → take (i + 1) ys ≡ take i ys ++ y ∷ []
+take_next ys i y rest is = let next : i + 1 ≡ suc i = omega arith in ap (λ (k : ℕ). take k ys) next ∙ take_item ys i y rest is
+
+-- ---- answers
+
+-- the same answers where there are more requests
+pub answers_more : (n : Notary) (requests behind : List (List ℕ)) (answers : List Answered) (old new : Book) → Answers n requests answers old new
+    → Answers n (requests ++ behind) answers old new
+answers_more n requests behind [] old new is = is
+answers_more n [] behind (a ∷ answers) old new is = absurd is
+answers_more n (r ∷ requests) behind (a ∷ answers) old new is = (is.0, is.1, answers_more n requests behind answers is.0 new is.2)
+
+-- answers to requests, and then to more of them
+pub answers_then : (n : Notary) (requests more : List (List ℕ)) (xs ys : List Answered) (old mid new : Book) → length xs ≡ length requests
+    → Answers n requests xs old mid → Answers n more ys mid new → Answers n (requests ++ more) (xs ++ ys) old new
+answers_then n [] more [] ys old mid new same one two = subst (λ (b : Book). Answers n more ys b new) one two
+answers_then n [] more (x ∷ xs) ys old mid new same one two = absurd one
+answers_then n (r ∷ requests) more [] ys old mid new same one two = absurd (omega arith)
+answers_then n (r ∷ requests) more (x ∷ xs) ys old mid new same one two =
+    (one.0, one.1, answers_then n requests more xs ys one.0 mid new (omega arith) one.2 two)
+
+pub told_then : (xs ys : List Answered) → told_for (xs ++ ys) ≡ told_for xs ++ told_for ys
+told_then xs ys = map-append (λ (a : Answered). a.told) xs ys
+
+pub pieces_then : (xs ys : List Answered) → pieces_of (xs ++ ys) ≡ pieces_of xs ++ pieces_of ys
+pieces_then xs ys = ap concat (map-append (λ (a : Answered). a.piece) xs ys) ∙ concat-append (map (λ (a : Answered). a.piece) xs) (map (λ (a : Answered). a.piece) ys)
+
+-- the requests behind those that were answered, where there are more requests before them and behind them
+pub behind_then : (requests more behind : List (List ℕ)) (xs ys : List Answered) (next : List ℕ) (rest : List (List ℕ)) → length xs ≡ length requests
+    → drop (length ys) more ≡ next ∷ rest → drop (length (xs ++ ys)) (requests ++ (more ++ behind)) ≡ next ∷ (rest ++ behind)
+behind_then [] more behind [] ys next rest same is = dropped more (length ys) is
+  where
+    dropped : (more : List (List ℕ)) (i : ℕ) → drop i more ≡ next ∷ rest → drop i (more ++ behind) ≡ next ∷ (rest ++ behind)
+    dropped more zero is = ap (λ (l : List (List ℕ)). l ++ behind) is
+    dropped [] (suc i) is = absurd cc
+    dropped (m ∷ more) (suc i) is = dropped more i is
+behind_then [] more behind (x ∷ xs) ys next rest same is = absurd (omega arith)
+behind_then (r ∷ requests) more behind [] ys next rest same is = absurd (omega arith)
+behind_then (r ∷ requests) more behind (x ∷ xs) ys next rest same is = behind_then requests more behind xs ys next rest (omega arith) is

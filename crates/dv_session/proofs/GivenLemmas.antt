@@ -24,6 +24,7 @@ use Rattle.dv_draft.specs.Records.{record_in, record_of}
 use Rattle.dv_draft.specs.Types.{draft}
 use Rattle.dv_draft.specs.Views.{view_draft}
 use Rattle.dv_cert.specs.Certificates.{MayLeave, sealed_with}
+use Rattle.dv_path.specs.Anchors.{Anchored}
 use Rattle.dv_session.specs.declared.issuing.Issued.{Issued}
 use Rattle.dv_session.specs.declared.reply.Reply.{Reply}
 use Rattle.dv_session.specs.Issuing.{Book, Given, IsCertificateOf, IsGiven, bit_of_refusal, book_of, certified, entry_for, failed, full, notary_of, notice_for, refused, view_issued}
@@ -31,9 +32,9 @@ use Rattle.dv_session.specs.Replies.{IsReply}
 use Rattle.dv_session.proofs.IssuingLemmas.{last_leaves, record_certificate}
 
 -- a notice, where the reply is one
-pub notice_given : {V : Type 0} (request : List ℕ) (moment : ℕ) (server : Server) (reply : Reply) (bit : ℕ) (s : State V) (r : Result Issued AllocError) → IsReply request moment server reply → reply.answer ≡ Notice bit
-    → IfOk r (λ i. view_issued i ≡ notice_for reply bit) → IfOk r (λ i. IsGiven (notary_of server s) moment request (book_of s) (book_of s) (view_issued i))
-notice_given request moment server reply bit s r is notice told = IfOk-weaker r _ _ (λ i same. refused reply bit is notice refl same) told
+pub notice_given : {V : Type 0} (request : List ℕ) (moment : ℕ) (server : Server) (anchors : List Anchored) (reply : Reply) (bit : ℕ) (s : State V) (r : Result Issued AllocError) → IsReply request moment server anchors reply → reply.answer ≡ Notice bit
+    → IfOk r (λ i. view_issued i ≡ notice_for reply bit) → IfOk r (λ i. IsGiven (notary_of server anchors s) moment request (book_of s) (book_of s) (view_issued i))
+notice_given request moment server anchors reply bit s r is notice told = IfOk-weaker r _ _ (λ i same. refused reply bit is notice refl same) told
 
 -- the register is the same before the reservation as it was, and its list has its limit
 pub record IsReady {V : Type 0} (old ready : State V) : Type 0 where
@@ -48,7 +49,7 @@ pub record IsReserved {V S : Type 0} (ready new : State V) (result : Result S Re
   pub full : (result ≡ Err Full) ↔ ((ready.shut ≡ false) × (length ready.list ≡ limit_in ready))
   pub shuts : (new.shut ≡ true) ↔ ((ready.shut ≡ true) ⊎ (result ≡ Err Fault))
 
-module _ {V S : Type 0} (request : List ℕ) (moment : ℕ) (server : Server) (reply : Reply) (d : Draft) (is : IsReply request moment server reply) (drafts : reply.answer ≡ Drafted d)
+module _ {V S : Type 0} (request : List ℕ) (moment : ℕ) (server : Server) (anchors : List Anchored) (reply : Reply) (d : Draft) (is : IsReply request moment server anchors reply) (drafts : reply.answer ≡ Drafted d)
     (old ready new : State V) (kept : IsReady old ready) (result : Result S Reserve) (says : IsReserved ready new result) where
   same_limit : limit_in ready ≡ limit_in old
   same_limit = ap (λ (k : Key). leaf_count k.height) kept.same.identity
@@ -72,7 +73,7 @@ module _ {V S : Type 0} (request : List ℕ) (moment : ℕ) (server : Server) (r
       ]
 
   pub refusal_given : (refusal : Reserve) (g : Given) → result ≡ Err refusal → new.list ≡ ready.list → g ≡ notice_for reply (bit_of_refusal refusal)
-      → IsGiven (notary_of server old) moment request (book_of old) (book_of new) g
+      → IsGiven (notary_of server anchors old) moment request (book_of old) (book_of new) g
   refusal_given Full g was list told =
       let parts = says.full.0 was in
       let open_now : new.shut ≡ old.shut = still_open parts.0 (λ e. absurd cc) ∙ sym parts.0 ∙ kept.shut in
@@ -94,7 +95,7 @@ module _ {V S : Type 0} (request : List ℕ) (moment : ℕ) (server : Server) (r
       (sym kept.shut ∙ open_now, omega (arith, kept.fits, not_full), still_open open_now (λ e. absurd cc))
 
   pub slot_given : (slot : S) (g : Given) → result ≡ Ok slot → new.list ≡ ready.list ++ entry_for server d ∷ []
-      → IsCertificateOf (notary_of server old) old.list (entry_for server d) g → IsGiven (notary_of server old) moment request (book_of old) (book_of new) g
+      → IsCertificateOf (notary_of server anchors old) old.list (entry_for server d) g → IsGiven (notary_of server anchors old) moment request (book_of old) (book_of new) g
   slot_given slot g was list told =
       let room = slot_room slot was in
       let added : new.list ≡ old.list ++ entry_for server d ∷ [] = list ∙ ap (λ (l : List Entry). l ++ entry_for server d ∷ []) kept.list in
@@ -117,11 +118,11 @@ sealed_so old ready kept slot key certificates d octets is keyed sealed =
     ∙ ap (λ (n : ℕ). sealed_with old.identity (length old.list) certificates (cert_info_of n d)) serial
 
 -- so it is the certificate of the record that was added
-pub slot_certificate : {V : Type 0} (server : Server) (d : Draft) (old ready : State V) → IsReady old ready → (slot : SlotState) (key : Key) (i : Issued) → slot ≡ slot_at ready (length ready.list) → old.identity ≡ key
+pub slot_certificate : {V : Type 0} (server : Server) (anchors : List Anchored) (d : Draft) (old ready : State V) → IsReady old ready → (slot : SlotState) (key : Key) (i : Issued) → slot ≡ slot_at ready (length ready.list) → old.identity ≡ key
     → (Fits draft 32 (view_draft d) → record_in (record_of server.certificates (view_draft d)) ≡ Ok (server.certificates, view_draft d))
     → i.octets.items ≡ sealed_with key slot.leaf.number server.certificates (cert_info_of slot.serial (view_draft d)) → i.bit ≡ None → i.serial ≡ Some slot.serial
-    → IsCertificateOf (notary_of server old) old.list (entry_for server d) (view_issued i)
-slot_certificate server d old ready kept slot key i is keyed read sealed no_bit serial = (
+    → IsCertificateOf (notary_of server anchors old) old.list (entry_for server d) (view_issued i)
+slot_certificate server anchors d old ready kept slot key i is keyed read sealed no_bit serial = (
   record_certificate old.identity old.first (length old.list) server.certificates (view_draft d) i.octets.items d.spelled read
       (sealed_so old ready kept slot key server.certificates (view_draft d) i.octets.items is keyed sealed),
   no_bit,
@@ -129,9 +130,9 @@ slot_certificate server d old ready kept slot key i is keyed read sealed no_bit 
 )
 
 -- and may leave
-pub slot_leaves : {V : Type 0} (server : Server) (d : Draft) (old ready new : State V) → IsReady old ready → IsSameRegister ready new → (i : Issued) → new.list ≡ ready.list ++ entry_for server d ∷ []
-    → IsCertificateOf (notary_of server old) old.list (entry_for server d) (view_issued i) → MayLeave (rule_identity new.identity) new.first new.list i.octets.items
-slot_leaves server d old ready new kept same i list is =
+pub slot_leaves : {V : Type 0} (server : Server) (anchors : List Anchored) (d : Draft) (old ready new : State V) → IsReady old ready → IsSameRegister ready new → (i : Issued) → new.list ≡ ready.list ++ entry_for server d ∷ []
+    → IsCertificateOf (notary_of server anchors old) old.list (entry_for server d) (view_issued i) → MayLeave (rule_identity new.identity) new.first new.list i.octets.items
+slot_leaves server anchors d old ready new kept same i list is =
     let added : new.list ≡ old.list ++ entry_for server d ∷ [] = list ∙ ap (λ (l : List Entry). l ++ entry_for server d ∷ []) kept.list in
     subst (λ (k : Key). MayLeave (rule_identity k) new.first new.list i.octets.items) (sym (same.identity ∙ kept.same.identity))
     (subst (λ (n : ℕ). MayLeave (rule_identity old.identity) n new.list i.octets.items) (sym (same.first ∙ kept.same.first))

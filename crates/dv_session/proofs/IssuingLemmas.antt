@@ -1,7 +1,7 @@
 -- What is given for a reply: a notice, or the certificate of the record that is added.
 use Rattle.std.proofs.Common.{◌≡◌, ◌≢◌, ◌≤◌, ◌<◌, ◌+◌, ◌++◌, ◌∷◌, ◌∙◌, ℕ, Bool, true, false, cond, Result, Ok, Err, Option, Some, None, List, [], length, get_or, inl, inr, refl, sym, ap, subst, arith}
-use Rattle.std.specs.Prelude.{◌⊎◌, ◌==◌, not, IfOk, IfSome, unwrap_or}
-use Rattle.std.specs.List.{slice_get}
+use Rattle.std.specs.Prelude.{◌⊎◌, ◌==◌, ◌&&◌, nat_lt, not, IfOk, IfSome, unwrap_or}
+use Rattle.std.specs.List.{cons_option, filter_map, list_all, slice_get}
 use Rattle.std.specs.declared.alloc.AllocError.{AllocError}
 use Rattle.std.proofs.lemmas.List.{append_cancel_left, length-append}
 use Rattle.std.proofs.lemmas.Option.{slice_get-get_or}
@@ -20,13 +20,16 @@ use Rattle.dv_lms.specs.Identity.{Identity as Key}
 use Rattle.dv_register.specs.State.{rule_identity}
 use Rattle.dv_names.specs.Digest.{kind_of}
 use Rattle.dv_names.specs.Types.{general_name}
-use Rattle.dv_request.specs.Types.{data_of_request, dvcs_request}
+use Rattle.dv_request.specs.Targets.{targets_in}
+use Rattle.dv_request.specs.Types.{data_of_request, dvcs_request, target_chain}
 use Rattle.dv_draft.specs.declared.draft.Answer.{Answer}
 use Rattle.dv_draft.specs.declared.draft.Answer.TheVariants.{Draft as Drafted, Notice}
 use Rattle.dv_draft.specs.declared.server.Server.{Server}
 use Rattle.dv_draft.specs.CertInfo.{cert_info_of}
 use Rattle.dv_draft.specs.Records.{record_in, record_of}
 use Rattle.dv_draft.specs.Types.{draft, has_length}
+use Rattle.dv_path.specs.Anchors.{Anchored}
+use Rattle.dv_svc_pkc.specs.Certificates.{certificates_of, is_certificate, is_refused, target_failure}
 use Rattle.dv_svc_possession.specs.Possession.{is_unknown}
 use Rattle.dv_cert.specs.Certificates.{MayLeave, certificate_of, issued_if, key_of, sealed_with, service_issued}
 use Rattle.dv_cert.specs.Notices.{IsTransaction}
@@ -35,10 +38,10 @@ use Rattle.dv_register.specs.declared.refusals.Reserve.{Reserve}
 use Rattle.dv_register.specs.declared.refusals.Reserve.TheVariants.{Full, Shut, Fault}
 use Rattle.dv_session.specs.declared.issuing.Issued.{Issued}
 use Rattle.dv_session.specs.declared.reply.Reply.{Reply}
-use Rattle.dv_session.specs.Answers.{is_token, takes, version_of}
+use Rattle.dv_session.specs.Messages.{is_token, takes, version_of}
 use Rattle.dv_session.specs.Issuing.{Given, bit_of_refusal, notice_for, view_issued}
 use Rattle.dv_session.specs.Replies.{IsAnswerWith, IsDraftFor, IsReply, signed_message, request_message, other_octets}
-use Rattle.dv_session.specs.Steps.{Office, data_failure, failure_at, first_of, form_failure, has_critical, extensions_of, is_another_policy, is_built, is_for_others, is_valid_at, office_failure, policy_of, service_of, servers_of, time_failure, time_of}
+use Rattle.dv_session.specs.Steps.{Office, data_failure, failure_at, first_of, form_failure, has_critical, extensions_of, is_another_policy, is_after, is_built, is_for_others, is_timed, is_valid_at, office_failure, policy_of, service_of, servers_of, time_failure, time_of}
 
 -- ---- notices
 
@@ -54,59 +57,73 @@ known_first : (o : Option ℕ) (more : List (Option ℕ)) → IsKnown o → IsKn
 known_first None more p q = q
 known_first (Some bit) more p q = p
 
-known_form : (v : ValueOf dvcs_request) → IsKnown (form_failure v)
-known_form v =
+known_form : (moment : ℕ) (v : ValueOf dvcs_request) → IsKnown (form_failure moment v)
+known_form moment v =
     known_if (not (version_of v == 1)) (Some 2) _ (omega arith)
     (known_if (not (takes (service_of v) v.1.0)) (Some 2) _ (omega arith)
-    (known_if (is_token (time_of v)) (Some 3) _ (omega arith) (known_if (is_built (service_of v)) None (Some 24) tt (omega arith))))
+    (known_if (is_token (time_of v)) (Some 3) _ (omega arith)
+    (known_if (not (is_built (service_of v))) (Some 24) _ (omega arith) (known_if (is_timed (service_of v) && is_after moment (time_of v)) (Some 3) None (omega arith) tt))))
 
 known_office : (office : Office) (v : ValueOf dvcs_request) → IsKnown (office_failure office v)
 known_office office v =
     known_if (is_for_others office.subject (servers_of v)) (Some 6) _ (omega arith)
     (known_if (is_another_policy office.policy (policy_of v)) (Some 15) _ (omega arith) (known_if (has_critical (extensions_of v)) (Some 16) None (omega arith) tt))
 
+known_cons : (o : Option ℕ) (bits : List ℕ) → IsKnown o → IsKnown (slice_get bits 0) → IsKnown (slice_get (cons_option o bits) 0)
+known_cons None bits p q = q
+known_cons (Some bit) bits p q = p
+
+known_target : (t : ValueOf target_chain) → IsKnown (target_failure t)
+known_target t =
+    let good = list_all is_certificate (certificates_of t) in
+    known_if (is_refused t) (Some 2) (cond good None (Some 5)) (omega arith) (known_if good None (Some 5) tt (omega arith))
+
+known_targets : (ts : List (ValueOf target_chain)) → IsKnown (slice_get (filter_map target_failure ts) 0)
+known_targets [] = tt
+known_targets (t ∷ ts) = known_cons (target_failure t) (filter_map target_failure ts) (known_target t) (known_targets ts)
+
 known_data : (matter : ValueOf data_of_request) → IsKnown (data_failure matter)
 known_data (inl message) = tt
 known_data (inr (inl claim)) =
     let fits = has_length (kind_of claim.0) claim.1.0 in
     known_if (is_unknown (kind_of claim.0)) (Some 0) (cond fits None (Some 5)) (omega arith) (known_if fits None (Some 5) tt (omega arith))
-known_data (inr (inr targets)) = tt
+known_data (inr (inr certs)) = known_if (nat_lt 8 (length (targets_in certs))) (Some 2) _ (omega arith) (known_targets (targets_in certs))
 
 known_failure : (office : Office) (moment : ℕ) (v : ValueOf dvcs_request) → IsKnown (failure_at office moment v)
 known_failure office moment v =
-    known_first (form_failure v) _ (known_form v)
+    known_first (form_failure moment v) _ (known_form moment v)
     (known_first (office_failure office v) _ (known_office office v)
     (known_first (data_failure v.1.0) _ (known_data v.1.0)
     (known_first (time_failure office moment) [] (known_if (is_valid_at office moment) None (Some 14) tt (omega arith)) tt)))
 
 -- a draft is no notice
-no_notice : (matter : ValueOf data_of_request) (v : ValueOf dvcs_request) (moment : ℕ) (policy : Option (List ℕ)) (bit : ℕ) → IsDraftFor matter v moment policy (Notice bit) → ⊥
-no_notice (inl message) v moment policy bit is = is
-no_notice (inr (inl claim)) v moment policy bit is = is
-no_notice (inr (inr targets)) v moment policy bit is = is
+no_notice : (matter : ValueOf data_of_request) (v : ValueOf dvcs_request) (anchors : List Anchored) (moment : ℕ) (policy : Option (List ℕ)) (bit : ℕ) → IsDraftFor matter v anchors moment policy (Notice bit) → ⊥
+no_notice (inl message) v anchors moment policy bit is = is
+no_notice (inr (inl claim)) v anchors moment policy bit is = is
+no_notice (inr (inr targets)) v anchors moment policy bit is = is
 
-noticed_known : (failure : Option ℕ) (v : ValueOf dvcs_request) (moment : ℕ) (policy : Option (List ℕ)) (bit : ℕ) → IsKnown failure → IsAnswerWith failure v moment policy (Notice bit) → bit ≤ 26
-noticed_known (Some b) v moment policy bit known is = let same : bit ≡ b = cc in omega (arith, same, known)
-noticed_known None v moment policy bit known is = absurd (no_notice v.1.0 v moment policy bit is)
+noticed_known : (failure : Option ℕ) (v : ValueOf dvcs_request) (anchors : List Anchored) (moment : ℕ) (policy : Option (List ℕ)) (bit : ℕ) → IsKnown failure → IsAnswerWith failure v anchors moment policy (Notice bit) → bit ≤ 26
+noticed_known (Some b) v anchors moment policy bit known is = let same : bit ≡ b = cc in omega (arith, same, known)
+noticed_known None v anchors moment policy bit known is = absurd (no_notice v.1.0 v anchors moment policy bit is)
 
 -- the failure bit of a notice is known
-pub bit_known : (octets : List ℕ) (moment : ℕ) (server : Server) (reply : Reply) (bit : ℕ) → IsReply octets moment server reply → reply.answer ≡ Notice bit → bit ≤ 26
-bit_known octets moment server reply bit (signed_message info absent notice) is = let same : bit ≡ 24 = cc in omega (arith, same)
-bit_known octets moment server reply bit (request_message v message carried answered) is =
-    noticed_known (failure_at answered.0 moment v) v moment server.policy bit (known_failure answered.0 moment v)
-    (subst (IsAnswerWith (failure_at answered.0 moment v) v moment server.policy) is answered.2)
-bit_known octets moment server reply bit (other_octets unsigned none absent notice) is = let same : bit ≡ 5 = cc in omega (arith, same)
+pub bit_known : (octets : List ℕ) (moment : ℕ) (server : Server) (anchors : List Anchored) (reply : Reply) (bit : ℕ) → IsReply octets moment server anchors reply → reply.answer ≡ Notice bit → bit ≤ 26
+bit_known octets moment server anchors reply bit (signed_message info absent notice) is = let same : bit ≡ 24 = cc in omega (arith, same)
+bit_known octets moment server anchors reply bit (request_message v message carried answered) is =
+    noticed_known (failure_at answered.0 moment v) v anchors moment server.policy bit (known_failure answered.0 moment v)
+    (subst (IsAnswerWith (failure_at answered.0 moment v) v anchors moment server.policy) is answered.2)
+bit_known octets moment server anchors reply bit (other_octets unsigned none absent notice) is = let same : bit ≡ 5 = cc in omega (arith, same)
 
 -- a transactionIdentifier stands at depth 4
 carried_is : (o : Option (List ℕ)) → IfSome o (Fits (raw general_name) 29) → IsTransaction (unwrap_or o [])
 carried_is None fits = inl refl
 carried_is (Some octets) fits = inr (fits.0, fits.2, fits.1)
 
-pub transaction_is : (octets : List ℕ) (moment : ℕ) (server : Server) (reply : Reply) → IsReply octets moment server reply → IsTransaction (unwrap_or reply.transaction [])
-transaction_is octets moment server reply (signed_message info absent notice) = inl (ap (λ (o : Option (List ℕ)). unwrap_or o []) absent)
-transaction_is octets moment server reply (request_message v message carried answered) =
+pub transaction_is : (octets : List ℕ) (moment : ℕ) (server : Server) (anchors : List Anchored) (reply : Reply) → IsReply octets moment server anchors reply → IsTransaction (unwrap_or reply.transaction [])
+transaction_is octets moment server anchors reply (signed_message info absent notice) = inl (ap (λ (o : Option (List ℕ)). unwrap_or o []) absent)
+transaction_is octets moment server anchors reply (request_message v message carried answered) =
     subst (λ (o : Option (List ℕ)). IsTransaction (unwrap_or o [])) (sym carried) (carried_is v.1.1.0 message.0.2.1.1.0)
-transaction_is octets moment server reply (other_octets unsigned none absent notice) = inl (ap (λ (o : Option (List ℕ)). unwrap_or o []) absent)
+transaction_is octets moment server anchors reply (other_octets unsigned none absent notice) = inl (ap (λ (o : Option (List ℕ)). unwrap_or o []) absent)
 
 -- ---- certificates
 

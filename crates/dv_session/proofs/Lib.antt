@@ -4,8 +4,9 @@ pub mod FrontLemmas
 pub mod RequestLemmas
 pub mod ReadLemmas
 pub mod FramerLemmas
-pub mod PutsLemmas
+pub mod SendingLemmas
 pub mod AnswerLemmas
+pub mod AnsweringLemmas
 pub mod RunLemmas
 pub mod MessageLemmas
 pub mod StepLemmas

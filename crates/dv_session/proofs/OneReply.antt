@@ -11,8 +11,11 @@ use Rattle.dv_x509.specs.Types.{certificate_fields}
 use Rattle.dv_draft.specs.declared.draft.Answer.{Answer}
 use Rattle.dv_draft.specs.declared.draft.Answer.TheVariants.{Draft as Drafted, Notice}
 use Rattle.dv_draft.specs.declared.server.Server.{Server}
+use Rattle.dv_draft.specs.Views.{view_draft}
+use Rattle.dv_path.specs.Anchors.{Anchored}
+use Rattle.dv_svc_pkc.proofs.OneDraft.{one_pkc}
 use Rattle.dv_session.specs.declared.reply.Reply.{Reply}
-use Rattle.dv_session.specs.Answers.{IsInfoOf, IsRequestMessage}
+use Rattle.dv_session.specs.Messages.{IsInfoOf, IsRequestMessage}
 use Rattle.dv_session.specs.Offices.{IsOffice}
 use Rattle.dv_session.specs.Replies.{IsAnswerOf, IsAnswerWith, IsDraftFor, IsReply, SaysSame, said_by, signed_message, request_message, other_octets}
 use Rattle.dv_session.specs.Steps.{Office, failure_at}
@@ -41,28 +44,30 @@ one_office server a b x y =
 -- ---- an answer
 
 -- a draft of the same data is the same
-same_draft : (matter : ValueOf data_of_request) (v : ValueOf dvcs_request) (moment : ℕ) (policy : Option (List ℕ)) (x y : Answer) → IsDraftFor matter v moment policy x → IsDraftFor matter v moment policy y
+same_draft : (matter : ValueOf data_of_request) (v : ValueOf dvcs_request) (anchors : List Anchored) (moment : ℕ) (policy : Option (List ℕ)) (x y : Answer) → IsDraftFor matter v anchors moment policy x → IsDraftFor matter v anchors moment policy y
     → said_by x ≡ said_by y
-same_draft (inl message) v moment policy (Drafted d) (Drafted e) p q = ap inr (p ∙ sym q)
-same_draft (inl message) v moment policy (Drafted d) (Notice b) p q = absurd q
-same_draft (inl message) v moment policy (Notice b) y p q = absurd p
-same_draft (inr (inl claim)) v moment policy (Drafted d) (Drafted e) p q = ap inr (p ∙ sym q)
-same_draft (inr (inl claim)) v moment policy (Drafted d) (Notice b) p q = absurd q
-same_draft (inr (inl claim)) v moment policy (Notice b) y p q = absurd p
-same_draft (inr (inr targets)) v moment policy x y p q = absurd p
+same_draft (inl message) v anchors moment policy (Drafted d) (Drafted e) p q = ap inr (p ∙ sym q)
+same_draft (inl message) v anchors moment policy (Drafted d) (Notice b) p q = absurd q
+same_draft (inl message) v anchors moment policy (Notice b) y p q = absurd p
+same_draft (inr (inl claim)) v anchors moment policy (Drafted d) (Drafted e) p q = ap inr (p ∙ sym q)
+same_draft (inr (inl claim)) v anchors moment policy (Drafted d) (Notice b) p q = absurd q
+same_draft (inr (inl claim)) v anchors moment policy (Notice b) y p q = absurd p
+same_draft (inr (inr certs)) v anchors moment policy (Drafted d) (Drafted e) p q = ap inr (one_pkc v certs anchors moment policy None (view_draft d) (view_draft e) p q)
+same_draft (inr (inr certs)) v anchors moment policy (Drafted d) (Notice b) p q = absurd q
+same_draft (inr (inr certs)) v anchors moment policy (Notice b) y p q = absurd p
 
 -- an answer with the same failure is the same
-same_with : (failure : Option ℕ) (v : ValueOf dvcs_request) (moment : ℕ) (policy : Option (List ℕ)) (x y : Answer) → IsAnswerWith failure v moment policy x → IsAnswerWith failure v moment policy y
+same_with : (failure : Option ℕ) (v : ValueOf dvcs_request) (anchors : List Anchored) (moment : ℕ) (policy : Option (List ℕ)) (x y : Answer) → IsAnswerWith failure v anchors moment policy x → IsAnswerWith failure v anchors moment policy y
     → said_by x ≡ said_by y
-same_with (Some bit) v moment policy x y p q = ap said_by (p ∙ sym q)
-same_with None v moment policy x y p q = same_draft v.1.0 v moment policy x y p q
+same_with (Some bit) v anchors moment policy x y p q = ap said_by (p ∙ sym q)
+same_with None v anchors moment policy x y p q = same_draft v.1.0 v anchors moment policy x y p q
 
 -- a request has one answer
-same_answer : (server : Server) (moment : ℕ) (v : ValueOf dvcs_request) (x y : Answer) → IsAnswerOf server moment v x → IsAnswerOf server moment v y → said_by x ≡ said_by y
-same_answer server moment v x y p q =
+same_answer : (server : Server) (anchors : List Anchored) (moment : ℕ) (v : ValueOf dvcs_request) (x y : Answer) → IsAnswerOf server anchors moment v x → IsAnswerOf server anchors moment v y → said_by x ≡ said_by y
+same_answer server anchors moment v x y p q =
     let same = one_office server q.0 p.0 q.1 p.1 in
-    let also = subst (λ (o : Office). IsAnswerWith (failure_at o moment v) v moment server.policy y) same q.2 in
-    same_with (failure_at p.0 moment v) v moment server.policy x y p.2 also
+    let also = subst (λ (o : Office). IsAnswerWith (failure_at o moment v) v anchors moment server.policy y) same q.2 in
+    same_with (failure_at p.0 moment v) v anchors moment server.policy x y p.2 also
 
 -- ---- a message
 
@@ -82,17 +87,17 @@ not_both octets content v x y =
     let same = ap (λ (i : ValueOf content_info). i.0) (same_info octets signed_data_type content request_data_type (spelling dvcs_request v) x y.1) in
     absurd cc
 
-pub same_reply : (octets : List ℕ) (moment : ℕ) (server : Server) (said other : Reply) → IsReply octets moment server said → IsReply octets moment server other → SaysSame said other
-same_reply octets moment server said other (signed_message info absent notice) (signed_message info' absent' notice') = (absent ∙ sym absent', ap said_by (notice ∙ sym notice'))
-same_reply octets moment server said other (signed_message info absent notice) (request_message v message carried answered) = absurd (not_both octets info.0 v info.1 message)
-same_reply octets moment server said other (signed_message info absent notice) (other_octets unsigned none absent' notice') = absurd (unsigned info)
-same_reply octets moment server said other (request_message v message carried answered) (signed_message info absent notice) = absurd (not_both octets info.0 v info.1 message)
-same_reply octets moment server said other (request_message v message carried answered) (request_message w message' carried' answered') =
+pub same_reply : (octets : List ℕ) (moment : ℕ) (server : Server) (anchors : List Anchored) (said other : Reply) → IsReply octets moment server anchors said → IsReply octets moment server anchors other → SaysSame said other
+same_reply octets moment server anchors said other (signed_message info absent notice) (signed_message info' absent' notice') = (absent ∙ sym absent', ap said_by (notice ∙ sym notice'))
+same_reply octets moment server anchors said other (signed_message info absent notice) (request_message v message carried answered) = absurd (not_both octets info.0 v info.1 message)
+same_reply octets moment server anchors said other (signed_message info absent notice) (other_octets unsigned none absent' notice') = absurd (unsigned info)
+same_reply octets moment server anchors said other (request_message v message carried answered) (signed_message info absent notice) = absurd (not_both octets info.0 v info.1 message)
+same_reply octets moment server anchors said other (request_message v message carried answered) (request_message w message' carried' answered') =
     let same = same_request octets w v message' message in (
       carried ∙ sym (carried' ∙ ap (λ (x : ValueOf dvcs_request). x.1.1.0) same),
-      same_answer server moment v said.answer other.answer answered (subst (λ (x : ValueOf dvcs_request). IsAnswerOf server moment x other.answer) same answered'),
+      same_answer server anchors moment v said.answer other.answer answered (subst (λ (x : ValueOf dvcs_request). IsAnswerOf server anchors moment x other.answer) same answered'),
     )
-same_reply octets moment server said other (request_message v message carried answered) (other_octets unsigned none absent notice) = absurd (none v message)
-same_reply octets moment server said other (other_octets unsigned none absent notice) (signed_message info absent' notice') = absurd (unsigned info)
-same_reply octets moment server said other (other_octets unsigned none absent notice) (request_message v message carried answered) = absurd (none v message)
-same_reply octets moment server said other (other_octets unsigned none absent notice) (other_octets unsigned' none' absent' notice') = (absent ∙ sym absent', ap said_by (notice ∙ sym notice'))
+same_reply octets moment server anchors said other (request_message v message carried answered) (other_octets unsigned none absent notice) = absurd (none v message)
+same_reply octets moment server anchors said other (other_octets unsigned none absent notice) (signed_message info absent' notice') = absurd (unsigned info)
+same_reply octets moment server anchors said other (other_octets unsigned none absent notice) (request_message v message carried answered) = absurd (none v message)
+same_reply octets moment server anchors said other (other_octets unsigned none absent notice) (other_octets unsigned' none' absent' notice') = (absent ∙ sym absent', ap said_by (notice ∙ sym notice'))

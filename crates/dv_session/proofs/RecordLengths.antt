@@ -1,17 +1,20 @@
 -- How long the parts of a message are, and the record of a draft that it is answered with.
 use Rattle.std.proofs.Common.{◌≡◌, ◌≤◌, ◌<◌, ◌*◌, ◌+◌, ◌++◌, ◌∷◌, ◌∙◌, ℕ, Bool, true, false, cond, ltb, Result, Ok, Err, Option, Some, None, List, [], length, inl, inr, refl, sym, ap, subst, arith}
-use Rattle.std.specs.Prelude.{All, IsOk, unwrap_or}
-use Rattle.std.specs.List.{concat}
+use Rattle.std.specs.Prelude.{All, IsOk, is_some, unwrap_or}
+use Rattle.std.specs.List.{concat, list_all}
 use Rattle.std.specs.Option.{ForSome}
 use Rattle.std.proofs.lemmas.Bool.{ltb-false}
 use Rattle.std.proofs.lemmas.List.{length-append}
 use Rattle.std.proofs.lemmas.List.Elements.{All-head, All-tail}
-use Rattle.dv_schema.specs.Schema.{FieldsOf, ValueOf, contents, raw, spelled_if, spelling}
+use Rattle.dv_schema.specs.Schema.{FieldsOf, ValueOf, contents, raw, sequence_of, spelled_if, spelling}
+use Rattle.dv_schema.specs.Fits.{Fits}
 use Rattle.dv_schema.specs.Tlv.{tlv}
 use Rattle.dv_cms.specs.Types.{content_info}
+use Rattle.dv_time.specs.Views.{view_moment}
 use Rattle.dv_names.specs.Types.{general_name}
 use Rattle.dv_request.specs.Request.{request_data_type}
-use Rattle.dv_request.specs.Types.{data_of_request, dvcs_request, request_fields, request_information}
+use Rattle.dv_request.specs.Targets.{targets_in}
+use Rattle.dv_request.specs.Types.{data_of_request, dvcs_request, request_fields, request_information, target_chain}
 use Rattle.dv_request.proofs.MessageLemmas.{octets_few}
 use Rattle.dv_x509.specs.declared.fault.X509.{X509}
 use Rattle.dv_x509.specs.declared.fault.X509.TheVariants.{TooLong}
@@ -25,16 +28,21 @@ use Rattle.dv_draft.specs.declared.server.Server.{Server}
 use Rattle.dv_draft.specs.CertInfo.{after_serial, before_serial}
 use Rattle.dv_draft.specs.Records.{IsCertificate, record_of}
 use Rattle.dv_draft.specs.Servers.{IsPolicyName}
-use Rattle.dv_draft.specs.Types.{draft, draft_fields, imprint}
+use Rattle.dv_draft.specs.Types.{draft, draft_fields, imprint, plain_status}
 use Rattle.dv_draft.specs.Views.{view_draft}
 use Rattle.dv_draft.proofs.DraftLemmas.{fields_size, later_size}
 use Rattle.dv_draft.proofs.ListLemmas.{record_is}
 use Rattle.dv_draft.proofs.MadeLemmas.{imprint_few}
-use Rattle.dv_svc_possession.specs.Possession.{cpd_of, draft_with}
+use Rattle.dv_path.specs.Anchors.{Anchored}
+use Rattle.dv_svc_pkc.specs.Certificates.{pkc_failure}
+use Rattle.dv_svc_pkc.specs.Drafts.{IsPkc, pkc_of}
+use Rattle.dv_svc_pkc.specs.Entries.{entries_of, granted_if}
+use Rattle.dv_svc_pkc.proofs.Lengths.{certs_few}
+use Rattle.dv_svc_possession.specs.Possession.{cpd_of}
 use Rattle.dv_session.specs.declared.reply.Reply.{Reply}
-use Rattle.dv_session.specs.Answers.{IsRequestMessage}
+use Rattle.dv_session.specs.Messages.{IsRequestMessage}
 use Rattle.dv_session.specs.Replies.{IsAnswerOf, IsAnswerWith, IsDraftFor, IsReply, signed_message, request_message, other_octets}
-use Rattle.dv_session.specs.Steps.{failure_at}
+use Rattle.dv_session.specs.Steps.{data_failure, failure_at, first_of, form_failure, office_failure, time_failure}
 
 -- ---- certificates
 
@@ -91,25 +99,70 @@ parts_few v =
     )
 
 -- the transactionIdentifier of a reply is no longer than the message
-pub transaction_few : (octets : List ℕ) (moment : ℕ) (server : Server) (reply : Reply) → IsReply octets moment server reply → length (unwrap_or reply.transaction []) ≤ length octets
-transaction_few octets moment server reply (signed_message info absent notice) = omega (arith, ap (λ (o : Option (List ℕ)). length (unwrap_or o [])) absent)
-transaction_few octets moment server reply (request_message v message carried answered) =
+pub transaction_few : (octets : List ℕ) (moment : ℕ) (server : Server) (anchors : List Anchored) (reply : Reply) → IsReply octets moment server anchors reply → length (unwrap_or reply.transaction []) ≤ length octets
+transaction_few octets moment server anchors reply (signed_message info absent notice) = omega (arith, ap (λ (o : Option (List ℕ)). length (unwrap_or o [])) absent)
+transaction_few octets moment server anchors reply (request_message v message carried answered) =
     omega (arith, ap (λ (o : Option (List ℕ)). length (unwrap_or o [])) carried, parts_few v, request_few octets v message)
-transaction_few octets moment server reply (other_octets unsigned none absent notice) = omega (arith, ap (λ (o : Option (List ℕ)). length (unwrap_or o [])) absent)
+transaction_few octets moment server anchors reply (other_octets unsigned none absent notice) = omega (arith, ap (λ (o : Option (List ℕ)). length (unwrap_or o [])) absent)
 
 -- ---- drafts
 
--- the draft for a request has an imprint of its own, and the other parts as draft_with has them
-drafted_for : (matter : ValueOf data_of_request) (v : ValueOf dvcs_request) (moment : ℕ) (policy : Option (List ℕ)) (d : Draft) → IsDraftFor matter v moment policy (Drafted d)
-    → (i : ValueOf imprint) × (view_draft d ≡ draft_with v i moment policy None)
-drafted_for (inl message) v moment policy d is = ((cpd_of v message moment policy None).1.0, is)
-drafted_for (inr (inl claim)) v moment policy d is = (claim, is)
-drafted_for (inr (inr targets)) v moment policy d is = absurd is
+-- the octets of its data
+data_few : (v : ValueOf dvcs_request) → length (spelling data_of_request v.1.0) ≤ length (spelling dvcs_request v)
+data_few v =
+    let a : List ℕ = spelling request_information v.0 in
+    let b : List ℕ = spelling data_of_request v.1.0 in
+    let d : List ℕ = spelled_if (spelling (raw general_name)) v.1.1.0 in
+    omega (arith, length-tlv 48 (contents request_fields v), length-append a (b ++ (d ++ [])), length-append b (d ++ []))
 
-drafted_with : (failure : Option ℕ) (v : ValueOf dvcs_request) (moment : ℕ) (policy : Option (List ℕ)) (d : Draft) → IsAnswerWith failure v moment policy (Drafted d)
-    → (i : ValueOf imprint) × (view_draft d ≡ draft_with v i moment policy None)
-drafted_with (Some bit) v moment policy d is = absurd cc
-drafted_with None v moment policy d is = drafted_for v.1.0 v moment policy d is
+-- The draft for a request has its information, an imprint, the moment and the policy; a status of a few octets, or none; and the contents
+-- octets of a list of targets, or none, which have at most 328,160 octets more than a request.
+record IsMade (v : ValueOf dvcs_request) (moment : ℕ) (policy : Option (List ℕ)) (d : ValueOf draft) : Type 0 where
+  imprint_is : ValueOf imprint
+  status : Option (ValueOf plain_status)
+  certs : Option (List ℕ)
+  is : d ≡ (spelling request_information v.0, (imprint_is, (view_moment moment, (status, (policy, (None, (certs, tt)))))))
+  status_few : length (spelled_if (spelling plain_status) status) ≤ 20
+  certs_short : length (unwrap_or certs []) ≤ 590304
+
+granted_few : (granted : Bool) → length (spelling plain_status (granted_if granted)) ≤ 20
+granted_few true = omega arith
+granted_few false = omega arith
+
+-- that of the validation of certificates
+validated_made : (v : ValueOf dvcs_request) (certs : List ℕ) (anchors : List Anchored) (moment : ℕ) (policy : Option (List ℕ)) (d : ValueOf draft) → v.1.0 ≡ inr (inr certs) → Fits dvcs_request 30 v
+    → length (spelling dvcs_request v) ≤ 262144 → pkc_failure (targets_in certs) ≡ None → IsPkc v certs anchors moment policy None d → IsMade v moment policy d
+validated_made v certs anchors moment policy d same fits few checked p =
+    let has = ap (λ (x : ValueOf data_of_request). length (spelling data_of_request x)) same in
+    let short : length certs ≤ 262144 = omega (arith, few, data_few v, has) in
+    let fit = subst (λ (x : ValueOf data_of_request). ∥ Fits dvcs_request 30 (v.0, (x, (v.1.1.0, tt))) ∥₁) same ∣ fits ∣₁ in
+    let entries = certs_few v.0 certs v.1.1.0 anchors p.when p.outcomes fit checked (omega (arith, short)) p.right in
+    record {
+      imprint_is = (pkc_of v certs p.outcomes moment policy None).1.0;
+      status = Some (granted_if (list_all is_some p.outcomes));
+      certs = Some (contents (sequence_of true target_chain) (entries_of (targets_in certs) p.outcomes));
+      is = p.is;
+      status_few = granted_few (list_all is_some p.outcomes);
+      certs_short = omega (arith, entries, short);
+    }
+
+drafted_for : (matter : ValueOf data_of_request) (v : ValueOf dvcs_request) (anchors : List Anchored) (moment : ℕ) (policy : Option (List ℕ)) (d : Draft) → v.1.0 ≡ matter → Fits dvcs_request 30 v
+    → length (spelling dvcs_request v) ≤ 262144 → data_failure matter ≡ None → IsDraftFor matter v anchors moment policy (Drafted d) → IsMade v moment policy (view_draft d)
+drafted_for (inl message) v anchors moment policy d same fits few none is = record { imprint_is = (cpd_of v message moment policy None).1.0; status = None; certs = None; is = is; status_few = omega arith; certs_short = omega arith }
+drafted_for (inr (inl claim)) v anchors moment policy d same fits few none is = record { imprint_is = claim; status = None; certs = None; is = is; status_few = omega arith; certs_short = omega arith }
+drafted_for (inr (inr certs)) v anchors moment policy d same fits few none is = validated_made v certs anchors moment policy (view_draft d) same fits few none is
+
+drafted_with : (failure : Option ℕ) (v : ValueOf dvcs_request) (anchors : List Anchored) (moment : ℕ) (policy : Option (List ℕ)) (d : Draft) → Fits dvcs_request 30 v → length (spelling dvcs_request v) ≤ 262144
+    → (failure ≡ None → data_failure v.1.0 ≡ None) → IsAnswerWith failure v anchors moment policy (Drafted d) → IsMade v moment policy (view_draft d)
+drafted_with (Some bit) v anchors moment policy d fits few none is = absurd cc
+drafted_with None v anchors moment policy d fits few none is = drafted_for v.1.0 v anchors moment policy d refl fits few (none refl) is
+
+-- where no step refuses a request, its data have no failure
+third_none : (a b c d : Option ℕ) → first_of (a ∷ b ∷ c ∷ d ∷ []) ≡ None → c ≡ None
+third_none None None None d e = refl
+third_none None None (Some bit) d e = absurd cc
+third_none None (Some bit) c d e = absurd cc
+third_none (Some bit) b c d e = absurd cc
 
 -- a value has at most ten octets more than its contents
 value_few : (tag : ℕ) (c : List ℕ) → length c < 18446744073709551616 → length (tlv tag c) ≤ length c + 10
@@ -119,27 +172,34 @@ policy_few : (o : Option (List ℕ)) → ForSome o IsPolicyName → length (spel
 policy_few None named = omega arith
 policy_few (Some c) named = let short : length c ≤ 2048 = (named c refl).0 in omega (arith, short, value_few 161 c (omega arith))
 
--- a draft has at most 2,200 octets more than the request's information
-draft_few : (v : ValueOf dvcs_request) (moment : ℕ) (policy : Option (List ℕ)) (d : Draft) (i : ValueOf imprint) → view_draft d ≡ draft_with v i moment policy None → ForSome policy IsPolicyName
-    → length (spelling request_information v.0) ≤ 262144 → length (spelling draft (view_draft d)) ≤ length (spelling request_information v.0) + 2200
-draft_few v moment policy d i is named short =
-    let w : ValueOf draft = draft_with v i moment policy None in
+entries_few : (o : Option (List ℕ)) → length (unwrap_or o []) ≤ 590304 → length (spelled_if (tlv 163) o) ≤ 590314
+entries_few None short = omega arith
+entries_few (Some c) short = omega (arith, short, value_few 163 c (omega (arith, short)))
+
+-- a draft has at most 592,600 octets more than the request's information
+draft_few : (v : ValueOf dvcs_request) (moment : ℕ) (policy : Option (List ℕ)) (d : Draft) → IsMade v moment policy (view_draft d) → ForSome policy IsPolicyName
+    → length (spelling request_information v.0) ≤ 262144 → length (spelling draft (view_draft d)) ≤ length (spelling request_information v.0) + 592600
+draft_few v moment policy d m named short =
     let info : List ℕ = spelling request_information v.0 in
-    let same : length (spelling imprint i) ≡ length (spelling imprint (view_draft d).1.0) = sym (ap (λ (x : ValueOf draft). length (spelling imprint x.1.0)) is) in
+    let w : ValueOf draft = (info, (m.imprint_is, (view_moment moment, (m.status, (policy, (None, (m.certs, tt))))))) in
+    let same : length (spelling imprint m.imprint_is) ≡ length (spelling imprint (view_draft d).1.0) = sym (ap (λ (x : ValueOf draft). length (spelling imprint x.1.0)) m.is) in
     let few = imprint_few d.imprint.kind d.imprint.with_null d.imprint.digest d.imprint.sized in
-    let before = length-append info (spelling imprint i) in
-    let after = later_size moment None policy None None in
+    let before = length-append info (spelling imprint m.imprint_is) in
+    let after = later_size moment m.status policy None m.certs in
     let named_few = policy_few policy named in
-    let inside : length (contents draft_fields w) ≤ length info + 2180 = omega (arith, same, few, before, after, named_few, fields_size w) in
-    omega (arith, inside, short, value_few 48 (contents draft_fields w) (omega (arith, inside, short)), ap (λ (x : ValueOf draft). length (spelling draft x)) is)
+    let entries = entries_few m.certs m.certs_short in
+    let inside : length (contents draft_fields w) ≤ length info + 592580 = omega (arith, same, few, before, after, named_few, entries, m.status_few, fields_size w) in
+    omega (arith, inside, short, value_few 48 (contents draft_fields w) (omega (arith, inside, short)), ap (λ (x : ValueOf draft). length (spelling draft x)) m.is)
 
 -- the record of a draft that a request is answered with
-answered_few : (octets : List ℕ) (moment : ℕ) (server : Server) (v : ValueOf dvcs_request) (d : Draft) → IsRequestMessage v octets → IsAnswerOf server moment v (Drafted d) → length octets ≤ 262144
+answered_few : (octets : List ℕ) (moment : ℕ) (server : Server) (anchors : List Anchored) (v : ValueOf dvcs_request) (d : Draft) → IsRequestMessage v octets → IsAnswerOf server anchors moment v (Drafted d) → length octets ≤ 262144
     → length (record_of server.certificates (view_draft d)) ≤ 1048576
-answered_few octets moment server v d message answered few =
-    let made = drafted_with (failure_at answered.0 moment v) v moment server.policy d answered.2 in
-    let info : length (spelling request_information v.0) ≤ 262144 = omega (arith, few, parts_few v, request_few octets v message) in
-    let drafted = draft_few v moment server.policy d made.0 made.1 server.named info in
+answered_few octets moment server anchors v d message answered few =
+    let whole : length (spelling dvcs_request v) ≤ 262144 = omega (arith, few, request_few octets v message) in
+    let none = third_none (form_failure moment v) (office_failure answered.0 v) (data_failure v.1.0) (time_failure answered.0 moment) in
+    let made = drafted_with (failure_at answered.0 moment v) v anchors moment server.policy d message.0 whole none answered.2 in
+    let info : length (spelling request_information v.0) ≤ 262144 = omega (arith, whole, parts_few v) in
+    let drafted = draft_few v moment server.policy d made server.named info in
     let all : List ℕ = concat server.certificates in
     let joined : length all ≤ 49152 = omega (arith, joined_few server.certificates server.decoded, server.few) in
     omega (
@@ -153,9 +213,9 @@ answered_few octets moment server v d message answered few =
     )
 
 -- the record of the draft of a reply to at most 262,144 octets has at most 1,048,576
-pub record_few : (octets : List ℕ) (moment : ℕ) (server : Server) (reply : Reply) (d : Draft) → IsReply octets moment server reply → reply.answer ≡ Drafted d → length octets ≤ 262144
+pub record_few : (octets : List ℕ) (moment : ℕ) (server : Server) (anchors : List Anchored) (reply : Reply) (d : Draft) → IsReply octets moment server anchors reply → reply.answer ≡ Drafted d → length octets ≤ 262144
     → length (record_of server.certificates (view_draft d)) ≤ 1048576
-record_few octets moment server reply d (signed_message info absent notice) is few = absurd cc
-record_few octets moment server reply d (request_message v message carried answered) is few =
-    answered_few octets moment server v d message (subst (IsAnswerOf server moment v) is answered) few
-record_few octets moment server reply d (other_octets unsigned none absent notice) is few = absurd cc
+record_few octets moment server anchors reply d (signed_message info absent notice) is few = absurd cc
+record_few octets moment server anchors reply d (request_message v message carried answered) is few =
+    answered_few octets moment server anchors v d message (subst (IsAnswerOf server anchors moment v) is answered) few
+record_few octets moment server anchors reply d (other_octets unsigned none absent notice) is few = absurd cc

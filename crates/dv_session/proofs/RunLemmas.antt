@@ -1,35 +1,31 @@
 -- A run of the server, turn by turn.
-use Rattle.std.proofs.Common.{◌≡◌, ◌≢◌, ◌⊎◌, ◌∙◌, ⊎_elim, inl, inr, ℕ, ◌+◌, ◌<◌, ◌≤◌, ◌^◌, Bool, true, false, List, [], ◌∷◌, ◌++◌, length, take, drop, refl, sym, ap, subst, arith, append_assoc, length-append, Ok, Err}
+use Rattle.std.proofs.Common.{◌≡◌, ◌≢◌, ◌⊎◌, ◌∙◌, inl, inr, ℕ, ◌+◌, ◌<◌, ◌≤◌, ◌^◌, Bool, true, false, List, [], ◌∷◌, ◌++◌, length, refl, sym, ap, subst, arith, append_assoc, length-append, Ok, Err}
 use Rattle.std.specs.Prelude.{Option, Some, None, IsTrue, Result, is_some, if◌then◌else◌}
 use Rattle.std.specs.Option.{option_map}
-use Rattle.std.specs.List.{concat}
 use Rattle.std.proofs.lemmas.List.{append-nil}
-use Rattle.std.proofs.lemmas.List.Folds.{concat-append}
-use Rattle.dv_outside.specs.Station.{Content, Puts}
+use Rattle.dv_outside.specs.Station.{Content}
 use Rattle.dv_session.specs.declared.framer.Fed.{Fed}
 use Rattle.dv_session.specs.declared.serving.End.{End}
-use Rattle.dv_session.specs.declared.serving.End.TheVariants.{Input, Read, Put, Memory, Refused, Limit}
-use Rattle.dv_session.specs.Requests.{HasNoHeader}
-use Rattle.dv_session.specs.Progress.{Progress, start, stop_of, Reads, IsAt}
+use Rattle.dv_session.specs.declared.serving.End.TheVariants.{Input, Read, Memory, Refused, Limit}
 use Rattle.dv_session.specs.Feeding.{Feeds, requests_of}
-use Rattle.dv_session.specs.Answers.{Answers}
-use Rattle.dv_session.specs.Serving.{Run, HasTaken, IsRun, Ends, Sends, SendsAll, SendsFront, PutsAnswers, Serves}
-use Rattle.dv_session.proofs.RequestLemmas.{nothing_begun, begun_header}
-use Rattle.dv_session.proofs.ReadLemmas.{reads_none, reads_more}
-use Rattle.dv_session.proofs.PutsLemmas.{puts_none, puts_then}
+use Rattle.dv_session.specs.Issuing.{Book, Notary}
+use Rattle.dv_session.specs.Progress.{Progress, start, stop_of, Reads, IsAt}
+use Rattle.dv_session.specs.Requests.{HasNoHeader}
+use Rattle.dv_session.specs.Serving.{Answers, AnswersRequests, Ends, HasTaken, HasTold, IsRun, IsStop, IsWhole, Serves}
 use Rattle.dv_session.proofs.AnswerLemmas.{answers_then}
+use Rattle.dv_session.proofs.AnsweringLemmas.{answering_more, answering_none, answering_stops, close_of, ends_then, run_of, told_more}
+use Rattle.dv_session.proofs.ReadLemmas.{reads_none, reads_more}
+use Rattle.dv_session.proofs.RequestLemmas.{nothing_begun, begun_header}
 
 -- All that was taken was read, and all requests in it were answered.
-pub record Going (left left' : Option (List ℕ)) (progress : Progress) (tells : Bool) (old new : Content) (taken : ℕ) : Type 0 where
+pub record Going (n : Notary) (left left' : Option (List ℕ)) (progress : Progress) (told told' : Option (List ℕ)) (book book' : Book) (tells : Bool)
+    (old new : Content) (taken : ℕ) : Type 0 where
   pub stream : List ℕ
   pub requests : List (List ℕ)
-  pub answers : List (List ℕ)
   pub took : HasTaken left left' stream
   pub size : length stream ≡ taken
   pub reads : Reads progress stream requests
-  pub answered : Answers requests answers
-  pub each : length answers ≡ length requests
-  pub sent : IsTrue tells → SendsAll answers old new
+  pub answering : AnswersRequests n requests (Ok tt) told told' book book' tells old new
 
 pub takes_none : (left : Option (List ℕ)) → HasTaken left left []
 takes_none None = refl
@@ -40,219 +36,153 @@ takes_then a b None xs ys one two = one ∙ ap (option_map (λ l. xs ++ l)) two
 takes_then a b (Some l) xs ys one two = one ∙ ap (option_map (λ l. xs ++ l)) two ∙ ap (λ (k : List ℕ). Some k) (sym (append_assoc xs ys l))
 
 -- nothing was taken yet
-pub going_none : (left : Option (List ℕ)) (tells : Bool) (a : Content) → Going left left start tells a a 0
-going_none left tells a = record {
+pub going_none : (n : Notary) (left told : Option (List ℕ)) (book : Book) (tells : Bool) (a : Content) → book.shut ≡ false
+    → Going n left left start told told book book tells a a 0
+going_none n left told book tells a still = record {
   stream = [];
   requests = [];
-  answers = [];
   took = takes_none left;
   size = refl;
   reads = reads_none;
-  answered = tt;
-  each = refl;
-  sent = λ told. puts_none tt a;
+  answering = answering_none n told book tells a still;
 }
 
 -- the source gave nothing more
-pub going_on : (left left' left'' : Option (List ℕ)) (progress : Progress) (tells : Bool) (a b : Content) (taken : ℕ) → Going left left' progress tells a b taken
-    → HasTaken left' left'' [] → Going left left'' progress tells a b taken
-going_on left left' left'' progress tells a b taken going none = record {
+pub going_on : (n : Notary) (left left' left'' : Option (List ℕ)) (progress : Progress) (told told' : Option (List ℕ)) (book book' : Book) (tells : Bool) (a b : Content)
+    (taken : ℕ) → Going n left left' progress told told' book book' tells a b taken → HasTaken left' left'' [] → Going n left left'' progress told told' book book' tells a b taken
+going_on n left left' left'' progress told told' book book' tells a b taken going none = record {
   stream = going.stream;
   requests = going.requests;
-  answers = going.answers;
   took = subst (HasTaken left left'') (append-nil going.stream) (takes_then left left' left'' going.stream [] going.took none);
   size = going.size;
   reads = going.reads;
-  answered = going.answered;
-  each = going.each;
-  sent = going.sent;
-}
-
--- all of some more answers were sent
-sends_all_then : (xs ys : List (List ℕ)) (a b c : Content) → SendsAll xs a b → SendsAll ys b c → SendsAll (xs ++ ys) a c
-sends_all_then xs ys a b c one two =
-    subst (λ (o : List ℕ). Puts {T = Unit {0}} {E = Unit {0}} o (Ok tt) a c) (sym (concat-append xs ys)) (puts_then tt (Ok tt) (concat xs) (concat ys) a b c one two)
-
--- the requests behind those that were answered
-behind_both : (requests more xs ys : List (List ℕ)) → length xs ≡ length requests → drop (length (xs ++ ys)) (requests ++ more) ≡ drop (length ys) more
-behind_both [] more [] ys same = refl
-behind_both [] more (x ∷ xs) ys same = absurd (omega arith)
-behind_both (r ∷ requests) more [] ys same = absurd (omega arith)
-behind_both (r ∷ requests) more (x ∷ xs) ys same = behind_both requests more xs ys (omega arith)
-
--- a front of some more answers was sent
-sends_front_then : (requests more xs ys : List (List ℕ)) (a b c : Content) → length xs ≡ length requests → SendsAll xs a b → SendsFront more ys b c
-    → SendsFront (requests ++ more) (xs ++ ys) a c
-sends_front_then requests more xs ys a b c same one two = record {
-  next = two.next;
-  is_answer = subst (λ (l : List (List ℕ)). Answers l (two.next ∷ [])) (sym (behind_both requests more xs ys same)) two.is_answer;
-  count = two.count;
-  within = two.within;
-  sent = two.sent ∙ ap (λ (l : List ℕ). l ++ take two.count two.next) (ap (λ (l : List ℕ). l ++ concat ys) one.whole
-      ∙ append_assoc (a.sent a.moment) (concat xs) (concat ys) ∙ ap (λ (l : List ℕ). a.sent a.moment ++ l) (sym (concat-append xs ys)));
-  puts = subst (λ (o : List ℕ). Puts {T = Unit {0}} {E = Unit {0}} o (Err tt) a c)
-      (sym (append_assoc (concat xs) (concat ys) two.next) ∙ ap (λ (l : List ℕ). l ++ two.next) (sym (concat-append xs ys)))
-      (puts_then tt (Err tt) (concat xs) (concat ys ++ two.next) a b c one two.puts);
+  answering = going.answering;
 }
 
 -- a turn more: a piece was taken and fed, and the requests that it completed were answered
-pub going_more : (left left' left'' : Option (List ℕ)) (old new : Progress) (fed : Fed) (tells : Bool) (a b c : Content) (taken : ℕ) (piece : List ℕ)
-    → Going left left' old tells a b taken → HasTaken left' left'' piece → Feeds old piece fed new → PutsAnswers (requests_of fed) (Ok tt) tells b c
-    → Going left left'' new tells a c (taken + length piece)
-going_more left left' left'' old new fed tells a b c taken piece going took fed_so put = record {
+pub going_more : (n : Notary) (left left' left'' : Option (List ℕ)) (before after : Progress) (fed : Fed) (told told' told'' : Option (List ℕ)) (book mid book' : Book)
+    (tells : Bool) (a b c : Content) (taken : ℕ) (piece : List ℕ) → Going n left left' before told told' book mid tells a b taken → HasTaken left' left'' piece
+    → Feeds before piece fed after → AnswersRequests n (requests_of fed) (Ok tt) told' told'' mid book' tells b c
+    → Going n left left'' after told told'' book book' tells a c (taken + length piece)
+going_more n left left' left'' before after fed told told' told'' book mid book' tells a b c taken piece going took fed_so more = record {
   stream = going.stream ++ piece;
   requests = going.requests ++ requests_of fed;
-  answers = going.answers ++ put.0;
   took = takes_then left left' left'' going.stream piece going.took took;
-  size = length-append going.stream piece ∙ ap (λ (n : ℕ). n + length piece) going.size;
-  reads = reads_more old new going.stream piece going.requests fed going.reads fed_so;
-  answered = answers_then going.requests (requests_of fed) going.answers put.0 going.answered going.each put.1;
-  each = omega (arith, length-append going.answers put.0, length-append going.requests (requests_of fed), going.each, put.2);
-  sent = λ told. sends_all_then going.answers put.0 a b c (going.sent told) (put.3 told);
+  size = length-append going.stream piece ∙ ap (λ (k : ℕ). k + length piece) going.size;
+  reads = reads_more before after going.stream piece going.requests fed going.reads fed_so;
+  answering = answering_more n (going.requests ++ requests_of fed) going.requests (requests_of fed) told told' told'' book mid book' tells a b c refl going.answering more;
 }
 
-run_of : (left left' : Option (List ℕ)) (progress : Progress) (tells : Bool) (a b : Content) (taken : ℕ) → Going left left' progress tells a b taken → List ℕ → Run
-run_of left left' progress tells a b taken going unread =
-    record { stream = going.stream; requests = going.requests; rest = going.reads.0; unread = unread; answers = going.answers }
+-- ---- how a run ends with each request answered
 
-is_run : (end : End) (left left' left'' : Option (List ℕ)) (progress : Progress) (tells : Bool) (a b : Content) (taken : ℕ) (unread : List ℕ)
-    (going : Going left left' progress tells a b taken) → HasTaken left' left'' unread → (end ≢ Memory → unread ≡ []) → taken + length unread ≤ 2 ^ 40
-    → IsRun end (run_of left left' progress tells a b taken going unread) left left''
-unfolding run_of
-is_run end left left' left'' progress tells a b taken unread going took all bound = record {
-  taken = takes_then left left' left'' going.stream unread going.took took;
-  all_read = all;
-  bound = omega (arith, length-append going.stream unread, going.size, bound);
-  split = going.reads.1;
-  answers = going.answered;
-}
+module _ (n : Notary) (left left' : Option (List ℕ)) (progress : Progress) (told told' : Option (List ℕ)) (book book' : Book) (tells : Bool) (a b : Content) (taken : ℕ)
+    (going : Going n left left' progress told told' book book' tells a b taken) (ended : Bool) where
+  -- the run, with octets that were taken and not read
+  is_run : (end : End) (left'' : Option (List ℕ)) (unread : List ℕ) → HasTaken left' left'' unread → (end ≢ Memory → unread ≡ []) → taken + length unread ≤ 2 ^ 40
+      → IsRun n end (run_of going.stream going.requests going.reads.0 unread going.answering.answers going.answering.between) left left'' book
+  is_run end left'' unread took all bound = record {
+    taken = takes_then left left' left'' going.stream unread going.took took;
+    all_read = all;
+    bound = omega (arith, length-append going.stream unread, going.size, bound);
+    split = going.reads.1;
+    answers = going.answering.answered;
+    is_open = going.answering.is_open;
+  }
 
-empty : (l : List ℕ) → length l ≡ 0 → l ≡ []
-empty [] e = refl
-empty (x ∷ xs) e = absurd (omega arith)
+  whole : (unread : List ℕ) → IsWhole (run_of going.stream going.requests going.reads.0 unread going.answering.answers going.answering.between)
+      (close_of going.answering.said book' ended tells a b)
+  whole unread = let is = going.answering.stops.1 in record { told = is.told; book = is.book; sent = is.sent }
 
-filled : (l : List ℕ) → 0 < length l → l ≢ []
-filled l lt e = let none : length l ≡ 0 = ap length e in omega arith
+  -- all that was taken was read
+  serves : (end : End) → taken ≤ 2 ^ 40
+      → Ends n end (run_of going.stream going.requests going.reads.0 [] going.answering.answers going.answering.between) (close_of going.answering.said book' ended tells a b)
+      → Serves n end left left' told told' book book' ended tells a b
+  serves end bound so = (
+    run_of going.stream going.requests going.reads.0 [] going.answering.answers going.answering.between,
+    going.answering.said,
+    is_run end left' [] (takes_none left') (λ _. refl) (omega (arith, bound)),
+    going.answering.has_told,
+    so,
+  )
 
-not_stopped : (progress : Progress) (taken : ℕ) (rest : List ℕ) → IsAt progress taken rest → progress.stopped ≡ false → ¬ HasNoHeader rest
-not_stopped progress taken rest at going never = let stopped : progress.stopped ≡ true = at.stopped.1 never in cc
+  not_stopped : progress.stopped ≡ false → ¬ HasNoHeader going.reads.0
+  not_stopped on never = let stopped : progress.stopped ≡ true = going.reads.2.stopped.1 never in cc
 
--- the input ended behind the last request
-pub serves_input : (left left' : Option (List ℕ)) (progress : Progress) (tells ended : Bool) (a b : Content) (taken : ℕ) → Going left left' progress tells a b taken
-    → taken ≤ 2 ^ 40 → progress.behind ≡ 0 → ended ≡ true → Serves Input left left' ended tells a b
-unfolding run_of
-serves_input left left' progress tells ended a b taken going bound none at_end = (
-  run_of left left' progress tells a b taken going [],
-  is_run Input left left' left' progress tells a b taken [] going (takes_none left') (λ _. refl) (omega (arith, bound)),
-  (empty going.reads.0 (sym going.reads.2.behind ∙ none), at_end, going.each),
-  going.sent,
-)
+  -- the input ended behind the last request
+  pub serves_input : taken ≤ 2 ^ 40 → progress.behind ≡ 0 → ended ≡ true → Serves n Input left left' told told' book book' ended tells a b
+  serves_input bound none at_end = serves Input bound (empty going.reads.0 (sym going.reads.2.behind ∙ none), at_end, going.answering.stops.0, whole [])
+    where
+      empty : (l : List ℕ) → length l ≡ 0 → l ≡ []
+      empty [] e = refl
+      empty (x ∷ xs) e = absurd (omega arith)
 
--- it ended in octets behind it
-pub serves_cut : (left left' : Option (List ℕ)) (progress : Progress) (tells ended : Bool) (a b : Content) (taken : ℕ) → Going left left' progress tells a b taken
-    → taken ≤ 2 ^ 40 → progress.behind ≢ 0 → ended ≡ true → Serves Refused left left' ended tells a b
-unfolding run_of
-serves_cut left left' progress tells ended a b taken going bound some at_end = (
-  run_of left left' progress tells a b taken going [],
-  is_run Refused left left' left' progress tells a b taken [] going (takes_none left') (λ _. refl) (omega (arith, bound)),
-  (filled going.reads.0 (omega (arith, some, going.reads.2.behind)), inr at_end, going.each),
-  going.sent,
-)
+  -- it ended in octets behind it
+  pub serves_cut : taken ≤ 2 ^ 40 → progress.behind ≢ 0 → ended ≡ true → Serves n Refused left left' told told' book book' ended tells a b
+  serves_cut bound some at_end =
+      serves Refused bound (filled going.reads.0 (omega (arith, some, going.reads.2.behind)), inr at_end, going.answering.stops.0, whole [])
+    where
+      filled : (l : List ℕ) → 0 < length l → l ≢ []
+      filled l lt e = let none : length l ≡ 0 = ap length e in omega arith
 
--- these octets begin no request
-pub serves_refused : (left left' : Option (List ℕ)) (progress : Progress) (tells ended : Bool) (a b : Content) (taken : ℕ) → Going left left' progress tells a b taken
-    → taken ≤ 2 ^ 40 → progress.stopped ≡ true → Serves Refused left left' ended tells a b
-unfolding run_of
-serves_refused left left' progress tells ended a b taken going bound stopped =
-    let never = going.reads.2.stopped.0 stopped in (
-      run_of left left' progress tells a b taken going [],
-      is_run Refused left left' left' progress tells a b taken [] going (takes_none left') (λ _. refl) (omega (arith, bound)),
-      (not_empty going.reads.0 never, inl never, going.each),
-      going.sent,
-    )
-  where
-    -- no octets go on to any header
-    not_empty : (rest : List ℕ) → HasNoHeader rest → rest ≢ []
-    not_empty rest never e = begun_header [] nothing_begun (subst HasNoHeader e never)
+  -- these octets begin no request
+  pub serves_refused : taken ≤ 2 ^ 40 → progress.stopped ≡ true → Serves n Refused left left' told told' book book' ended tells a b
+  serves_refused bound stopped =
+      let never = going.reads.2.stopped.0 stopped in
+      serves Refused bound (not_empty going.reads.0 never, inl never, going.answering.stops.0, whole [])
+    where
+      -- no octets go on to any header
+      not_empty : (rest : List ℕ) → HasNoHeader rest → rest ≢ []
+      not_empty rest never e = begun_header [] nothing_begun (subst HasNoHeader e never)
 
--- a read failed
-pub serves_read : (left left' : Option (List ℕ)) (progress : Progress) (tells ended : Bool) (a b : Content) (taken : ℕ) → Going left left' progress tells a b taken
-    → taken ≤ 2 ^ 40 → progress.stopped ≡ false → ended ≡ false → Serves Read left left' ended tells a b
-unfolding run_of
-serves_read left left' progress tells ended a b taken going bound on not_end = (
-  run_of left left' progress tells a b taken going [],
-  is_run Read left left' left' progress tells a b taken [] going (takes_none left') (λ _. refl) (omega (arith, bound)),
-  (not_stopped progress _ going.reads.0 going.reads.2 on, not_end, going.each),
-  going.sent,
-)
+  -- a read failed
+  pub serves_read : taken ≤ 2 ^ 40 → progress.stopped ≡ false → ended ≡ false → Serves n Read left left' told told' book book' ended tells a b
+  serves_read bound on not_end = serves Read bound (not_stopped on, not_end, going.answering.stops.0, whole [])
 
--- as much was taken as may be
-pub serves_limit : (left left' : Option (List ℕ)) (progress : Progress) (tells ended : Bool) (a b : Content) (taken : ℕ) → Going left left' progress tells a b taken
-    → taken ≡ 2 ^ 40 → progress.stopped ≡ false → ended ≡ false → Serves Limit left left' ended tells a b
-unfolding run_of
-serves_limit left left' progress tells ended a b taken going all on not_end = (
-  run_of left left' progress tells a b taken going [],
-  is_run Limit left left' left' progress tells a b taken [] going (takes_none left') (λ _. refl) (omega (arith, all)),
-  (going.size ∙ all, not_stopped progress _ going.reads.0 going.reads.2 on, not_end, going.each),
-  going.sent,
-)
+  -- as much was taken as may be
+  pub serves_limit : taken ≡ 2 ^ 40 → progress.stopped ≡ false → ended ≡ false → Serves n Limit left left' told told' book book' ended tells a b
+  serves_limit all on not_end =
+      serves Limit (omega (arith, all)) (going.size ∙ all, not_stopped on, not_end, going.answering.stops.0, whole [])
 
--- There was no memory to read on, with all requests answered. What was taken last isn't read.
-pub serves_memory : (left left' left'' : Option (List ℕ)) (progress : Progress) (tells ended : Bool) (a b : Content) (taken : ℕ) (unread : List ℕ)
-    → Going left left' progress tells a b taken → HasTaken left' left'' unread → taken + length unread ≤ 2 ^ 40 → Serves Memory left left'' ended tells a b
-unfolding run_of
-serves_memory left left' left'' progress tells ended a b taken unread going took bound = (
-  run_of left left' progress tells a b taken going unread,
-  is_run Memory left left' left'' progress tells a b taken unread going took (λ other. absurd (other refl)) bound,
-  tt,
-  going.sent,
-)
+  -- There was no memory to read on. What was taken last isn't read.
+  pub serves_memory : (left'' : Option (List ℕ)) (unread : List ℕ) → HasTaken left' left'' unread → taken + length unread ≤ 2 ^ 40
+      → Serves n Memory left left'' told told' book book' ended tells a b
+  serves_memory left'' unread took bound =
+      let is = whole unread in (
+        run_of going.stream going.requests going.reads.0 unread going.answering.answers going.answering.between,
+        going.answering.said,
+        is_run Memory left'' unread took (λ other. absurd (other refl)) bound,
+        going.answering.has_told,
+        record { told = inl is.told; list = ap (λ (k : Book). k.list) is.book; sent = is.sent },
+      )
 
--- a put ends a run that has requests without an answer, and want of memory ends any
-ends_so : (end : End) (run : Run) (ended : Bool) → (end ≡ Put) ⊎ (end ≡ Memory) → (end ≡ Put → length run.answers < length run.requests) → Ends end run ended
-ends_so Put run ended which less = less refl
-ends_so Memory run ended which less = tt
-ends_so Input run ended which less = ⊎_elim (λ e. absurd (cc e)) (λ e. absurd (cc e)) which
-ends_so Refused run ended which less = ⊎_elim (λ e. absurd (cc e)) (λ e. absurd (cc e)) which
-ends_so Read run ended which less = ⊎_elim (λ e. absurd (cc e)) (λ e. absurd (cc e)) which
-ends_so Limit run ended which less = ⊎_elim (λ e. absurd (cc e)) (λ e. absurd (cc e)) which
+-- ---- how it ends at a request
 
--- what was sent of the answers to some more requests, behind what was sent before
-sends_so : (end : End) (requests more xs ys : List (List ℕ)) (a b c : Content) → (end ≡ Put) ⊎ (end ≡ Memory) → length xs ≡ length requests
-    → SendsAll xs a b → Sends end more ys b c → Sends end (requests ++ more) (xs ++ ys) a c
-sends_so Put requests more xs ys a b c which same one two = sends_front_then requests more xs ys a b c same one two
-sends_so Memory requests more xs ys a b c which same one two = sends_all_then xs ys a b c one two
-sends_so Input requests more xs ys a b c which same one two = ⊎_elim (λ e. absurd (cc e)) (λ e. absurd (cc e)) which
-sends_so Refused requests more xs ys a b c which same one two = ⊎_elim (λ e. absurd (cc e)) (λ e. absurd (cc e)) which
-sends_so Read requests more xs ys a b c which same one two = ⊎_elim (λ e. absurd (cc e)) (λ e. absurd (cc e)) which
-sends_so Limit requests more xs ys a b c which same one two = ⊎_elim (λ e. absurd (cc e)) (λ e. absurd (cc e)) which
-
--- the answers could not all be put, or there was no memory for one
-pub serves_put : (end : End) (left left' left'' : Option (List ℕ)) (old new : Progress) (fed : Fed) (tells ended : Bool) (a b c : Content) (taken : ℕ) (piece : List ℕ)
-    → Going left left' old tells a b taken → HasTaken left' left'' piece → Feeds old piece fed new → taken + length piece ≤ 2 ^ 40
-    → PutsAnswers (requests_of fed) (Err end) tells b c → (end ≡ Put) ⊎ (end ≡ Memory) → Serves end left left'' ended tells a c
-serves_put end left left' left'' old new fed tells ended a b c taken piece going took fed_so bound put which =
+pub serves_stop : (n : Notary) (end : End) (left left' left'' : Option (List ℕ)) (before after : Progress) (fed : Fed) (told told' told'' : Option (List ℕ))
+    (book mid book' : Book) (tells ended : Bool) (a b c : Content) (taken : ℕ) (piece : List ℕ) → Going n left left' before told told' book mid tells a b taken
+    → HasTaken left' left'' piece → Feeds before piece fed after → taken + length piece ≤ 2 ^ 40
+    → AnswersRequests n (requests_of fed) (Err end) told' told'' mid book' tells b c → IsStop end → Serves n end left left'' told told'' book book' ended tells a c
+serves_stop n end left left' left'' before after fed told told' told'' book mid book' tells ended a b c taken piece going took fed_so bound two stop =
     let more = requests_of fed in
-    let reads = reads_more old new going.stream piece going.requests fed going.reads fed_so in
-    let run : Run = record { stream = going.stream ++ piece; requests = going.requests ++ more; rest = reads.0; unread = []; answers = going.answers ++ put.0 } in
+    let one = going.answering in
+    let reads = reads_more before after going.stream piece going.requests fed going.reads fed_so in
     let none = append-nil (going.stream ++ piece) in
-    let is : IsRun end run left left'' = record {
+    let same : going.requests ++ more ≡ going.requests ++ (more ++ []) = ap (λ (l : List (List ℕ)). going.requests ++ l) (sym (append-nil more)) in
+    let from = subst (λ (m : Book). Answers n more two.answers m two.between) one.stops.1.book two.answered in
+    let is : IsRun n end (run_of (going.stream ++ piece) (going.requests ++ more) reads.0 [] (one.answers ++ two.answers) two.between) left left'' book = record {
       taken = subst (HasTaken left left'') (sym none) (takes_then left left' left'' going.stream piece going.took took);
       all_read = λ _. refl;
       bound = omega (arith, length-append going.stream piece, ap length none, going.size, bound);
       split = reads.1;
-      answers = answers_then going.requests more going.answers put.0 going.answered going.each put.1;
+      answers = answers_then n going.requests more one.answers two.answers book one.between two.between one.stops.0 one.answered from;
+      is_open = two.is_open;
     } in (
-      run,
+      run_of (going.stream ++ piece) (going.requests ++ more) reads.0 [] (one.answers ++ two.answers) two.between,
+      one.said ++ two.said,
       is,
-      ends_so end run ended which (λ at_put. omega (arith, put.2 at_put, length-append going.requests more, length-append going.answers put.0, going.each)),
-      λ told. sends_so end going.requests more going.answers put.0 a b c which going.each (going.sent told) (put.3 told),
+      told_more told told' told'' one.said two.said one.has_told two.has_told,
+      ends_then n (going.requests ++ more) going.requests more [] same one.answers two.answers one.stops.0 one.said two.said one.stops.1.told two.between book' tells a b c
+          one.stops.1.sent (going.stream ++ piece) reads.0 [] ended end stop two.stops,
     )
-
--- the same answers, of a station that tells as much
-pub puts_same : (xs ys : List (List ℕ)) (r : Result (Unit {0}) End) (t u : Bool) (b c : Content) → xs ≡ ys → t ≡ u → PutsAnswers xs r t b c → PutsAnswers ys r u b c
-puts_same xs ys r t u b c same as_much puts =
-    subst (λ (v : Bool). PutsAnswers ys r v b c) as_much (subst (λ (zs : List (List ℕ)). PutsAnswers zs r t b c) same puts)
 
 -- a stop is told exactly where the stream has stopped
 pub is_stop : (progress : Progress) (stop : Option ℕ) (some : Bool) → stop ≡ stop_of progress → some ≡ is_some stop → progress.stopped ≡ some

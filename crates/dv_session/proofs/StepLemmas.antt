@@ -1,5 +1,5 @@
 -- The lists that a request's information keeps are read, and what the steps find in them.
-use Rattle.std.proofs.Common.{◌≡◌, ◌≤◌, ◌∙◌, ℕ, Bool, true, false, Option, Some, Result, Ok, List, [], ◌∷◌, length, refl, sym, ap, subst, arith}
+use Rattle.std.proofs.Common.{◌≡◌, ◌≤◌, ◌∙◌, ℕ, Bool, true, false, eqb, ltb, is_lt, nat_cmp, Option, Some, Result, Ok, List, [], ◌∷◌, length, inl, refl, sym, ap, subst, arith}
 use Rattle.std.specs.Prelude.{IfSome}
 use Rattle.std.specs.List.{AllByRecursion, list_any}
 use Rattle.std.proofs.Math.Nat.{ℕ_set}
@@ -16,10 +16,14 @@ use Rattle.dv_schema.specs.Reading.{all_at, read}
 use Rattle.dv_schema.proofs.Kept.{value_set}
 use Rattle.dv_schema.proofs.Lists.{members_read}
 use Rattle.dv_schema.proofs.Spellings.{fields_more}
+use Rattle.dv_time.specs.Text.{civil_in, civil_of, last_second, second_of, text_of}
+use Rattle.dv_time.specs.Views.{view_moment}
+use Rattle.dv_time.proofs.TextLemmas.{read_back, second_again}
 use Rattle.dv_names.specs.Types.{extension, extension_fields, extensions, extensions_under, general_name, general_names}
 use Rattle.dv_request.specs.Members.{front_of, values_in}
 use Rattle.dv_request.specs.Types.{request_information}
 use Rattle.dv_request.proofs.MemberLemmas.{values_of_octets}
+use Rattle.dv_session.specs.Steps.{is_after}
 
 -- the members of a kept list that fits are read
 list_read : (s : Schema) (some : Bool) (n : ℕ) (octets : List ℕ) → is_clear s ≡ true → n ≤ 32 → FieldsFit (kept (sequence_of some s)) n octets
@@ -69,3 +73,22 @@ any_here test v vs e = rw e refl
 -- or doesn't
 pub any_behind : {A : Type 0} (test : A → Bool) (v : A) (vs : List A) → test v ≡ false → list_any test vs ≡ list_any test (v ∷ vs)
 any_behind test v vs e = rw e refl
+
+-- ---- the time of a request
+
+-- the text of a second tells it
+second_told : (s : ℕ) → s ≤ last_second → second_of (civil_in (text_of s)) ≡ s
+unfolding text_of
+second_told s le = let h = second_again s le in ap second_of (read_back (civil_of s) h.0) ∙ h.1
+
+-- what a comparison answers is whether the first number is below the second
+lt_told : (x y : ℕ) → is_lt (nat_cmp x y) ≡ ltb x y
+lt_told x y = go (ltb x y) (eqb x y) refl refl
+  where
+    go : (a b : Bool) → ltb x y ≡ a → eqb x y ≡ b → is_lt (nat_cmp x y) ≡ ltb x y
+    go true b e f = rw e refl
+    go false true e f = rw (e, f) refl
+    go false false e f = rw (e, f) refl
+
+pub after_told : (moment when : ℕ) → when ≤ last_second → is_after moment (Some (inl (view_moment when))) ≡ is_lt (nat_cmp moment when)
+after_told moment when le = ap (ltb moment) (second_told when le) ∙ sym (lt_told moment when)

@@ -9,16 +9,18 @@ use Rattle.dv_draft.specs.declared.draft.Draft.{Draft}
 use Rattle.dv_draft.specs.declared.server.Server.{Server}
 use Rattle.dv_draft.specs.Records.{record_of}
 use Rattle.dv_draft.specs.Views.{view_draft}
+use Rattle.dv_path.specs.Anchors.{Anchored}
 use Rattle.dv_register.specs.declared.refusals.Reserve.{Reserve}
 use Rattle.dv_register.specs.declared.refusals.Reserve.TheVariants.{Full, Shut, Fault}
 use Rattle.dv_session.specs.declared.issuing.Issued.{Issued}
 use Rattle.dv_session.specs.declared.reply.Reply.{Reply}
 use Rattle.dv_session.specs.Replies.{IsReply}
 
--- What stays the same while a notary serves: its certificates and its policy, its key, the serial number of the first record of its
--- register, and how many records that may hold.
+-- What stays the same while a notary serves: its certificates and its policy, its trust anchors, its key, the serial number of the first
+-- record of its register, and how many records that may hold.
 pub record Notary : Type 0 where
   pub server : Server
+  pub anchors : List Anchored
   pub key : RuleIdentity
   pub first : ℕ
   pub limit : ℕ
@@ -28,9 +30,9 @@ pub record Book : Type 0 where
   pub list : List Entry
   pub shut : Bool
 
--- a server and its register
-abbrev pub notary_of : {V : Type 0} → Server → State V → Notary
-notary_of server s = record { server = server; key = rule_identity s.identity; first = s.first; limit = limit_in s }
+-- a server, its anchors and its register
+abbrev pub notary_of : {V : Type 0} → Server → List Anchored → State V → Notary
+notary_of server anchors s = record { server = server; anchors = anchors; key = rule_identity s.identity; first = s.first; limit = limit_in s }
 
 abbrev pub book_of : {V : Type 0} → State V → Book
 book_of s = record { list = s.list; shut = s.shut }
@@ -68,13 +70,13 @@ IsCertificateOf n list entry g =
 -- is a draft, the register besides: a draft gets systemFailure, 25, where the register was shut or the reservation met a fault, which
 -- shuts it; systemUnavail, 24, where each leaf has its record; and else the certificate of its own record, which is added to the list.
 pub data IsGiven (n : Notary) (moment : ℕ) (request : List ℕ) (old new : Book) (g : Given) : Type 0 where
-  refused : (reply : Reply) (bit : ℕ) → IsReply request moment n.server reply → reply.answer ≡ Notice bit → new ≡ old → g ≡ notice_for reply bit
+  refused : (reply : Reply) (bit : ℕ) → IsReply request moment n.server n.anchors reply → reply.answer ≡ Notice bit → new ≡ old → g ≡ notice_for reply bit
       → IsGiven n moment request old new g
-  certified : (reply : Reply) (d : Draft) → IsReply request moment n.server reply → reply.answer ≡ Drafted d
+  certified : (reply : Reply) (d : Draft) → IsReply request moment n.server n.anchors reply → reply.answer ≡ Drafted d
       → old.shut ≡ false → length old.list < n.limit → new ≡ record { list = old.list ++ entry_for n.server d ∷ []; shut = false }
       → IsCertificateOf n old.list (entry_for n.server d) g → IsGiven n moment request old new g
-  full : (reply : Reply) (d : Draft) → IsReply request moment n.server reply → reply.answer ≡ Drafted d
+  full : (reply : Reply) (d : Draft) → IsReply request moment n.server n.anchors reply → reply.answer ≡ Drafted d
       → old.shut ≡ false → length old.list ≡ n.limit → new ≡ old → g ≡ notice_for reply 24 → IsGiven n moment request old new g
-  failed : (reply : Reply) (d : Draft) → IsReply request moment n.server reply → reply.answer ≡ Drafted d
+  failed : (reply : Reply) (d : Draft) → IsReply request moment n.server n.anchors reply → reply.answer ≡ Drafted d
       → (old.shut ≡ true) ⊎ (length old.list < n.limit) → new ≡ record { list = old.list; shut = true } → g ≡ notice_for reply 25
       → IsGiven n moment request old new g

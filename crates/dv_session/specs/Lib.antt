@@ -4,9 +4,10 @@ pub mod Progress
 pub mod Feeding
 pub mod Splitting
 pub mod Issuing
-pub mod Answers
-pub mod Refusals
+pub mod Sending
+pub mod Messages
 pub mod Serving
 pub mod Steps
 pub mod Offices
+pub mod Checks
 pub mod Replies

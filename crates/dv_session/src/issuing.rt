@@ -22,19 +22,24 @@ use dv_asn1::Writer;
 use dv_cert::{NotaryRule, Room, notice_bytes, notice_len};
 use dv_draft::reading_laws::records_are_read_again;
 use dv_draft::{Answer, Draft, Server, record_of};
+use dv_lms::Steps;
 use dv_outside::Station;
+use dv_path::Trust;
 use dv_register::{Register, Reserve, SigningKey, Slot};
 use dv_status::failure::{SYSTEM_FAILURE, SYSTEM_UNAVAIL};
 use dv_time::Moment;
 use std::alloc::{AllocError, Global};
+use std::marker::Brand;
+use std::sync::ledger::{Blank, Ledger};
 
 /// The kind of a record of a certificate of service.
 const SERVICE: u8 = 2;
 
-/// What a server answers with: its certificates and its policy, and the key of its register.
+/// What a server answers with: its certificates and its policy, its trust anchors, and the key of its register.
 #[derive(Drop)]
 pub struct Desk {
     pub server: Server,
+    pub trust: Trust,
     pub key: SigningKey,
 }
 
@@ -68,7 +73,7 @@ pub fn issue_one<V: Station>(
     requires key { register.old.identity ≡ desk.now.key }
     requires short { length octets.now ≤ 262_144 }
 
-    ensures given { IfOk result (λ i. IsGiven (notary_of desk.now.server register.old) moment octets.now (book_of register.old) (book_of register.new)
+    ensures given { IfOk result (λ i. IsGiven (notary_of desk.now.server desk.now.trust register.old) moment octets.now (book_of register.old) (book_of register.new)
         (view_issued i)) }
     ensures front { IfOk result (λ i. i.front ≡ length register.new.list) }
     ensures unchanged { OnErr result (register.new.list ≡ register.old.list) }
@@ -94,11 +99,36 @@ pub fn issue_one<V: Station>(
         × ((entry : Entry) → register.new.list ≡ register.old.list ++ entry ∷ [] → size ≡ length entry.contents) }
 {
     let front = register.len();
-    let reply = answer(alloc, octets, moment, &desk.server)?;
+    let reply = reply_at::<Brand>(alloc, octets, moment, desk, Blank::new(1))?;
     match &reply.answer {
         Answer::Notice { bit } => noticed(alloc, &reply, *bit, front),
         Answer::Draft(draft) => issue(alloc, register, &reply, draft, desk),
     }
+}
+
+/// The reply to the octets of a message. The signatures that are verified for it are counted on a new ledger.
+fn reply_at<L: Ledger>(
+    alloc: Global,
+    octets: &[u8],
+    moment: Moment,
+    desk: &Desk,
+    blank: Blank,
+) -> Result<Reply, AllocError>
+    requires name { blank.name ≡ L.name }
+    requires parts { blank.parts ≡ L.parts }
+    requires some { 0 < blank.parts }
+    requires short { length octets.now < 2 ^ 32 }
+    ensures { IfOk result (IsReply octets.now moment desk.now.server desk.now.trust) }
+{
+    let mut checks = Steps::<L>::new(blank);
+    answer(
+        alloc,
+        octets,
+        moment,
+        &desk.server,
+        &desk.trust,
+        &mut checks,
+    )
 }
 
 /// The octets of the transactionIdentifier of a reply, where it has one.
@@ -185,8 +215,8 @@ fn issue<V: Station>(
     requires carried { length (unwrap_or reply.now.transaction []) < 2 ^ 32 }
     requires short { length (entry_for desk.now.server draft.now).contents ≤ 1_048_576 }
 
-    ensures given { (request : List ℕ) (moment : ℕ) → IsReply request moment desk.now.server reply.now
-        → IfOk result (λ i. IsGiven (notary_of desk.now.server register.old) moment request (book_of register.old) (book_of register.new)
+    ensures given { (request : List ℕ) (moment : ℕ) → IsReply request moment desk.now.server desk.now.trust reply.now
+        → IfOk result (λ i. IsGiven (notary_of desk.now.server desk.now.trust register.old) moment request (book_of register.old) (book_of register.new)
         (view_issued i)) }
     ensures front { IfOk result (λ i. i.front ≡ length register.new.list) }
     ensures unchanged { OnErr result (register.new.list ≡ register.old.list) }

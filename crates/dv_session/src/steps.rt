@@ -10,13 +10,13 @@ ghost use Rattle.dv_schema.specs.Tlv.{tlv};
 ghost use Rattle.dv_names.specs.Types.{extension, general_name};
 ghost use Rattle.dv_names.specs.Views.{view_extension, view_general, view_policy};
 ghost use Rattle.dv_request.specs.DataView.{view_data};
-ghost use Rattle.dv_request.specs.Information.{number_of};
+ghost use Rattle.dv_request.specs.Information.{number_of, view_request_time};
 ghost use Rattle.dv_request.specs.Members.{front_of};
 ghost use Rattle.dv_request.specs.RequestView.{view_request};
 ghost use Rattle.dv_draft.specs.Servers.{IsPolicyName};
-ghost use Rattle.dv_session.specs.Answers.{takes as takes_data};
+ghost use Rattle.dv_session.specs.Messages.{takes as takes_data};
 ghost use Rattle.dv_session.specs.Offices.{view_office};
-ghost use Rattle.dv_session.specs.Steps.{form_failure as failure_of_form, has_critical as critical_among, is_another_policy as other_policy, is_built as built, is_critical as critical, is_directory_name as directory_name, is_for_others as for_others, office_failure as failure_at_office};
+ghost use Rattle.dv_session.specs.Steps.{form_failure as failure_of_form, has_critical as critical_among, is_after as after, is_another_policy as other_policy, is_built as built, is_critical as critical, is_directory_name as directory_name, is_for_others as for_others, is_timed as timed, office_failure as failure_at_office};
 
 use crate::office::Office;
 use dv_asn1::{Cursor, Decode, same};
@@ -25,15 +25,16 @@ use dv_request::{Data, Request, RequestInfo, RequestTime, Service};
 use dv_status::failure::{
     BAD_REQUEST, BAD_TIME, SYSTEM_UNAVAIL, UNACCEPTED_EXTENSION, UNACCEPTED_POLICY, WRONG_AUTHORITY,
 };
+use dv_time::Moment;
 
 /// The only version of a request that is served.
-pub(crate) const VERSION: u8 = 1;
+const VERSION: u8 = 1;
 
 /// The tag of a directoryName (RFC 5280 4.2.1.6).
 const DIRECTORY_NAME: u8 = 0xA4;
 
 /// Whether the service takes such data.
-pub(crate) fn takes(service: Service, data: &Data<'_>) -> bool
+fn takes(service: Service, data: &Data<'_>) -> bool
     ensures { result ≡ takes_data (number_of service) (view_data data.now) }
 {
     match (service, data) {
@@ -49,14 +50,48 @@ fn is_built(service: Service) -> bool
     ensures { result ≡ built (number_of service) }
 {
     match service {
-        Service::Cpd | Service::Ccpd => true,
-        Service::Vsd | Service::Cpkc => false,
+        Service::Cpd | Service::Cpkc | Service::Ccpd => true,
+        Service::Vsd => false,
     }
 }
 
-/// The failure bit of the first step that refuses a request by its form.
-pub(crate) fn form_failure(request: &Request<'_>) -> Option<u8>
-    ensures { result ≡ failure_of_form (view_request request.now) }
+/// Whether the time of a request counts for the service.
+fn is_timed(service: Service) -> bool
+    ensures { result ≡ timed (number_of service) }
+{
+    match service {
+        Service::Cpkc => true,
+        Service::Cpd | Service::Vsd | Service::Ccpd => false,
+    }
+}
+
+/// Whether the request names a time that is later than the moment.
+fn is_after(info: &RequestInfo<'_>, moment: Moment) -> bool
+    ensures { result ≡ after moment (option_map view_request_time info.now.time) }
+{
+    match &info.time {
+        None => false,
+        Some(time) => is_later(time, moment),
+    }
+}
+
+/// Whether the time is later than the moment. A token is not.
+fn is_later(time: &RequestTime<'_>, moment: Moment) -> bool
+    ensures { result ≡ after moment (Some (view_request_time time.now)) }
+{
+    match time {
+        RequestTime::At(when) => {
+            // Read for its contract: it is a second that a moment may be.
+            let _seconds = when.seconds();
+            moment < *when
+        }
+        RequestTime::Token(_) => false,
+    }
+}
+
+/// The failure bit of the first step that refuses a request by its form, at the moment of service.
+pub(crate) fn form_failure(request: &Request<'_>, moment: Moment) -> Option<u8>
+    ensures { result ≡ failure_of_form moment (view_request request.now) }
 {
     if request.info.version != VERSION || !takes(request.info.service, &request.matter) {
         return Some(BAD_REQUEST);
@@ -66,6 +101,9 @@ pub(crate) fn form_failure(request: &Request<'_>) -> Option<u8>
     }
     if !is_built(request.info.service) {
         return Some(SYSTEM_UNAVAIL);
+    }
+    if is_timed(request.info.service) && is_after(&request.info, moment) {
+        return Some(BAD_TIME);
     }
     None
 }

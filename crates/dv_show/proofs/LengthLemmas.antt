@@ -1,5 +1,5 @@
 -- The lines of a file have no more octets than the file.
-use Rattle.std.proofs.Common.{◌≡◌, ◌∙◌, ◌+◌, ◌-◌, ◌*◌, ◌^◌, ◌<◌, ◌≤◌, ◌++◌, ◌∷◌, [], ℕ, length, arith, Bool, true, false, cond, ltb, eqb, List, refl, sym, ap, subst, inl, inr}
+use Rattle.std.proofs.Common.{◌≡◌, ◌∙◌, ◌+◌, ◌-◌, ◌≤◌, ◌++◌, ◌∷◌, [], ℕ, length, arith, Bool, true, false, cond, ltb, eqb, List, refl, sym, ap, subst, inl, inr}
 use Rattle.std.specs.Prelude.{Option, Some, None, codes, unwrap_or}
 use Rattle.std.specs.Int.{bit_at}
 use Rattle.std.specs.Fmt.{decimal}
@@ -8,9 +8,9 @@ use Rattle.std.proofs.lemmas.Fmt.{length-decimal-le}
 use Rattle.std.proofs.lemmas.List.{append-nil, length-append}
 use Rattle.std.proofs.lemmas.Nat.Bits.{bit_at-zero}
 use Rattle.dv_schema.specs.Tlv.{integer_octets, length_octets, tlv}
-use Rattle.dv_schema.specs.Schema.{contents, spelled_if, spelling, ValueOf}
+use Rattle.dv_schema.specs.Schema.{spelled_if, spelling, ValueOf}
 use Rattle.dv_status.specs.Fail.{fail_bits}
-use Rattle.dv_status.specs.Types.{fail_info, status_fields, utf8_string}
+use Rattle.dv_status.specs.Types.{fail_info, utf8_string}
 use Rattle.dv_schema.specs.Types.{list_of}
 use Rattle.dv_cms.specs.Types.{content_info}
 use Rattle.dv_request.specs.declared.service.Service.{Service}
@@ -18,7 +18,7 @@ use Rattle.dv_request.specs.declared.service.Service.TheVariants.{Cpd, Vsd, Cpkc
 use Rattle.dv_response.specs.Types.{error_notice}
 use Rattle.dv_show.specs.declared.value.Shown.{Shown}
 use Rattle.dv_show.specs.declared.value.Shown.TheVariants.{Request, Notice}
-use Rattle.dv_show.specs.Show.{AreShown, IsContent, IsLeast, IsSet, IsShown, line_for, name_of_failure, octets_of_all, ShowOf, text_of_all, type_of, Values, word_of_notice}
+use Rattle.dv_show.specs.Show.{AreShown, IsContent, IsLeast, IsSet, IsShown, line_for, octets_of_all, ShowOf, text_of_all, type_of, Values, word_of_notice}
 
 -- ---- values
 

@@ -1,5 +1,5 @@
 -- One value of a file, as it is read.
-use Rattle.std.proofs.Common.{◌≡◌, ◌∙◌, ◌+◌, ◌-◌, ◌<◌, length, ◌≤◌, ◌%◌, ◌++◌, ℕ, List, Ok, Err, Result, Bool, true, false, eqb, ltb, refl, sym, ap, subst, inl, inr, arith, true≢false}
+use Rattle.std.proofs.Common.{◌≡◌, ◌∙◌, ◌+◌, ◌-◌, ◌<◌, length, ◌≤◌, ◌%◌, ◌++◌, ℕ, List, Ok, Result, Bool, true, false, eqb, ltb, refl, sym, ap, subst, inl, inr, arith, true≢false}
 use Rattle.std.specs.Prelude.{IfSome, IsOkAnd, Option, option_map, Some}
 use Rattle.std.proofs.lemmas.List.{length-append}
 use Rattle.std.proofs.lemmas.Bool.{cases_Bool, eqb-true, ltb-true, ltb-false}

@@ -35,6 +35,19 @@ const SIGNATURE: [u8; 16] = [
     0x04, 0x82, 0x05, 0x10, 0x00, 0x00, 0x00, 0x00, 0x00, 0x00, 0x00, 0x01, 0x00, 0x00, 0x00, 0x04,
 ];
 
+/// The type of a request's message, as an OBJECT IDENTIFIER (RFC 3029 8).
+const REQUEST_DATA: [u8; 13] = [
+    0x06, 0x0B, 0x2A, 0x86, 0x48, 0x86, 0xF7, 0x0D, 0x01, 0x09, 0x10, 0x01, 0x07,
+];
+
+/// The last octet of a responseTime, the dvStatus granted, and the tag of the entries.
+const GRANTED: [u8; 7] = [0x5A, 0xA0, 0x03, 0x02, 0x01, 0x00, 0xA3];
+
+/// The same with the dvStatus rejection and the failInfo signerNotTrusted.
+const REJECTED: [u8; 13] = [
+    0x5A, 0xA0, 0x09, 0x02, 0x01, 0x02, 0x03, 0x04, 0x03, 0x00, 0x00, 0x08, 0xA3,
+];
+
 /// The failInfo badTime.
 const BAD_TIME_INFO: [u8; 4] = [0x03, 0x02, 0x04, 0x10];
 
@@ -53,8 +66,8 @@ const UNTIL: u64 = 1_767_225_600;
 /// A register in memory.
 type InMemory = Register<MemStation, NotaryRule>;
 
-/// The certificate of the server notary for 2025.
-fn own_octets(alloc: Global) -> Result<Vec<u8>, AllocError> {
+/// The certificate of the server notary for 2025, signed with its key, or with a signature that is none.
+fn own_octets(alloc: Global, is_signed: bool) -> Result<Vec<u8>, AllocError> {
     let (Some(from), Some(until)) = (Moment::from_unix(FROM), Moment::from_unix(UNTIL)) else {
         return Err(AllocError);
     };
@@ -63,17 +76,26 @@ fn own_octets(alloc: Global) -> Result<Vec<u8>, AllocError> {
         from,
         until,
     };
-    let tbs = own_tbs(alloc, &parts, &[7; 60], 1)?;
-    certificate_of(alloc, &tbs, &[1, 2, 3])
+    let key = Key::from_seed(alloc, Height::H5, [7; 16], [9; 32])?;
+    let tbs = own_tbs(alloc, &parts, &key.public(), 1)?;
+    if is_signed {
+        certificate_of(alloc, &tbs, key.sign(0, &tbs).as_slice())
+    } else {
+        certificate_of(alloc, &tbs, &[1, 2, 3])
+    }
 }
 
-/// The server notary, and a key of 32 leaves.
+/// The server notary, which trusts itself, and its key of 32 leaves.
 fn desk(alloc: Global) -> Result<Desk, AllocError> {
-    let certificates = vec![in alloc; own_octets(alloc)?]?;
+    let own = own_octets(alloc, true)?;
+    let Ok(trust) = Trust::decode(alloc, &own) else {
+        return Err(AllocError);
+    };
+    let certificates = vec![in alloc; own]?;
     let key = SigningKey::new(Key::from_seed(alloc, Height::H5, [7; 16], [9; 32])?);
     match Server::new(certificates, None) {
         None => Err(AllocError),
-        Some(server) => Ok(Desk { server, key }),
+        Some(server) => Ok(Desk { server, trust, key }),
     }
 }
 
@@ -193,5 +215,97 @@ fn a_full_register(rt: HostRuntime) -> Result<(), Fail> {
         (32, Some(3), None)
     );
     assert!(rt; contains(&refused.octets, &BAD_TIME_INFO));
+    Ok(())
+}
+
+/// A value with this tag.
+fn tlv(alloc: Global, tag: u8, contents: &[u8]) -> Result<Vec<u8>, AllocError> {
+    let len = contents.len();
+    if len > 0xFFFF {
+        return Err(AllocError);
+    }
+    let mut octets = Vec::new(alloc);
+    octets.push(tag)?;
+    if len < 128 {
+        octets.push(len as u8)?;
+    } else if len < 256 {
+        octets.extend_from_slice(&[0x81, len as u8])?;
+    } else {
+        octets.extend_from_slice(&[0x82, (len / 256) as u8, (len % 256) as u8])?;
+    }
+    octets.extend_from_slice(contents)?;
+    Ok(octets)
+}
+
+/// The message of a request to validate this certificate, with the octets of its requestTime.
+fn cpkc(alloc: Global, certificate: &[u8], time: &[u8]) -> Result<Vec<u8>, AllocError> {
+    let mut target = certificate.to_vec(alloc)?;
+    if let Some(tag) = target.get_mut(0) {
+        *tag = 0xA0;
+    }
+    let entry = tlv(alloc, 0x30, &target)?;
+    let mut info = b"\x0A\x01\x03".to_vec(alloc)?;
+    info.extend_from_slice(time)?;
+    let mut request = tlv(alloc, 0x30, &info)?;
+    request.extend_from_slice(&tlv(alloc, 0xA0, &entry)?)?;
+    let request = tlv(alloc, 0x30, &request)?;
+    let mut message = REQUEST_DATA.to_vec(alloc)?;
+    message.extend_from_slice(&tlv(alloc, 0xA0, &request)?)?;
+    tlv(alloc, 0x30, &message)
+}
+
+/// What such a request gets at the first second of 2025.
+fn validated(
+    alloc: Global,
+    register: &mut InMemory,
+    certificate: &[u8],
+    time: &[u8],
+    desk: &Desk,
+) -> Result<Issued, AllocError>
+    requires { register.old.identity ≡ desk.now.key }
+    ensures { register.new.identity ≡ register.old.identity }
+{
+    let octets = cpkc(alloc, certificate, time)?;
+    if octets.len() > 262_144 {
+        return Err(AllocError);
+    }
+    issued(alloc, register, &octets, desk)
+}
+
+#[test]
+fn certificates_that_an_anchor_issued(rt: HostRuntime) -> Result<(), Fail> {
+    let alloc = rt.alloc();
+    let desk = desk(alloc)?;
+    let mut register = begun(alloc, &desk, Vec::new(alloc))?.expect(&rt, "it is made");
+    let own = own_octets(alloc, true)?;
+    let issued = validated(alloc, &mut register, &own, &[], &desk)?;
+    assert_eq!(rt; (issued.bit, issued.serial), (None, Some(2)));
+    assert!(rt; contains(&issued.octets, &GRANTED));
+    let unsigned = own_octets(alloc, false)?;
+    let rejected = validated(alloc, &mut register, &unsigned, &[], &desk)?;
+    assert_eq!(rt; (rejected.bit, rejected.serial), (None, Some(3)));
+    assert!(rt; contains(&rejected.octets, &REJECTED));
+    Ok(())
+}
+
+#[test]
+fn validation_at_another_time(rt: HostRuntime) -> Result<(), Fail> {
+    let alloc = rt.alloc();
+    let desk = desk(alloc)?;
+    let mut register = begun(alloc, &desk, Vec::new(alloc))?.expect(&rt, "it is made");
+    let own = own_octets(alloc, true)?;
+    let now = b"\x18\x0F20250101000000Z";
+    let issued = validated(alloc, &mut register, &own, now, &desk)?;
+    assert_eq!(rt; (issued.bit, issued.serial), (None, Some(2)));
+    assert!(rt; contains(&issued.octets, &GRANTED));
+    let later = b"\x18\x0F20250101000001Z";
+    let refused = validated(alloc, &mut register, &own, later, &desk)?;
+    assert_eq!(rt; (refused.bit, refused.serial), (Some(3), None));
+    assert!(rt; contains(&refused.octets, &BAD_TIME_INFO));
+    assert_eq!(rt; register.len(), 2);
+    let before = b"\x18\x0F20241231235959Z";
+    let rejected = validated(alloc, &mut register, &own, before, &desk)?;
+    assert_eq!(rt; (rejected.bit, rejected.serial), (None, Some(3)));
+    assert!(rt; contains(&rejected.octets, &REJECTED));
     Ok(())
 }

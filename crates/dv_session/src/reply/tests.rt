@@ -1,13 +1,15 @@
 //! Requests that were worked out by hand, and what they are answered.
 
-ghost use Rattle.std.specs.Prelude.{◌<◌, ◌^◌, length};
+ghost use Rattle.std.specs.Prelude.{◌≡◌, ◌<◌, ◌^◌, length};
 
 use super::*;
 use dv_x509::{OwnParts, own_certificate as certificate_of, own_tbs};
+use std::marker::Brand;
+use std::sync::ledger::Blank;
 use std::test::Fail;
 
 /// A request for possession of abc.
-const CPD: [u8; 29] = [
+pub(crate) const CPD: [u8; 29] = [
     0x30, 0x1B, 0x06, 0x0B, 0x2A, 0x86, 0x48, 0x86, 0xF7, 0x0D, 0x01, 0x09, 0x10, 0x01, 0x07, 0xA0,
     0x0C, 0x30, 0x0A, 0x30, 0x03, 0x0A, 0x01, 0x01, 0x04, 0x03, 0x61, 0x62, 0x63,
 ];
@@ -25,7 +27,7 @@ const TOKEN: [u8; 31] = [
 ];
 
 /// The same for the validation of a document, with the transactionIdentifier a, a dNSName.
-const VSD: [u8; 32] = [
+pub(crate) const VSD: [u8; 32] = [
     0x30, 0x1E, 0x06, 0x0B, 0x2A, 0x86, 0x48, 0x86, 0xF7, 0x0D, 0x01, 0x09, 0x10, 0x01, 0x07, 0xA0,
     0x0F, 0x30, 0x0D, 0x30, 0x03, 0x0A, 0x01, 0x02, 0x04, 0x03, 0x61, 0x62, 0x63, 0x82, 0x01, 0x61,
 ];
@@ -80,7 +82,7 @@ const CLAIM: [u8; 34] = [
 ];
 
 /// A signed message with an empty content.
-const SIGNED: [u8; 17] = [
+pub(crate) const SIGNED: [u8; 17] = [
     0x30, 0x0F, 0x06, 0x09, 0x2A, 0x86, 0x48, 0x86, 0xF7, 0x0D, 0x01, 0x07, 0x02, 0xA0, 0x02, 0x30,
     0x00,
 ];
@@ -92,7 +94,7 @@ const DIGEST: [u8; 32] = [
 ];
 
 /// The first second of 2025.
-const FROM: u64 = 1_735_689_600;
+pub(crate) const FROM: u64 = 1_735_689_600;
 
 /// The first second of 2026.
 const UNTIL: u64 = 1_767_225_600;
@@ -112,7 +114,7 @@ fn own_octets(alloc: Global) -> Result<Vec<u8>, AllocError> {
 }
 
 /// The server notary with the policy 1.2, 1.3 or none.
-fn server(alloc: Global, policy: Option<u8>) -> Result<Server, AllocError> {
+pub(crate) fn server(alloc: Global, policy: Option<u8>) -> Result<Server, AllocError> {
     let policy = match policy {
         None => None,
         Some(arc) => Some(vec![in alloc; 0x06, 0x01, arc]?),
@@ -124,6 +126,32 @@ fn server(alloc: Global, policy: Option<u8>) -> Result<Server, AllocError> {
     }
 }
 
+/// The anchor of the server notary itself.
+pub(crate) fn trust(alloc: Global) -> Result<Trust, AllocError> {
+    match Trust::decode(alloc, &own_octets(alloc)?) {
+        Err(_) => Err(AllocError),
+        Ok(trust) => Ok(trust),
+    }
+}
+
+/// The reply of a server that trusts itself. The signatures that are verified for it are counted on a new ledger.
+fn replied<L: Ledger>(
+    alloc: Global,
+    octets: &[u8],
+    moment: Moment,
+    server: &Server,
+    blank: Blank,
+) -> Result<Reply, AllocError>
+    requires name { blank.name ≡ L.name }
+    requires parts { blank.parts ≡ L.parts }
+    requires some { 0 < blank.parts }
+    requires short { length octets.now < 2 ^ 32 }
+{
+    let trust = trust(alloc)?;
+    let mut checks = Steps::<L>::new(blank);
+    answer(alloc, octets, moment, server, &trust, &mut checks)
+}
+
 /// The reply of a server with this policy at a second since 1970.
 fn reply(alloc: Global, octets: &[u8], second: u64, policy: Option<u8>) -> Result<Reply, AllocError>
     requires { length octets.now < 2 ^ 32 }
@@ -131,7 +159,7 @@ fn reply(alloc: Global, octets: &[u8], second: u64, policy: Option<u8>) -> Resul
     let server = server(alloc, policy)?;
     match Moment::from_unix(second) {
         None => Err(AllocError),
-        Some(moment) => answer(alloc, octets, moment, &server),
+        Some(moment) => replied::<Brand>(alloc, octets, moment, &server, Blank::new(1)),
     }
 }
 

@@ -33,9 +33,9 @@ returns-in-Ok-clause-given g c = λ request moment is.
     let room = subst (IsRoomOf c.in_ok-room.room (view_draft draft)) c.as_slice.ensures c.in_ok-room.ensures in
     let sealed = c.certified.ensures.octets (view_draft draft) server.certificates room in
     let read = λ (f : Fits draft_type 32 (view_draft draft)). c.records_are_read_again.ensures server.certificates (view_draft draft) server.some server.few server.decoded f (omega (arith, c.requires.short)) in
-    let certificate = slot_certificate server draft old ready kept c.in-Ok.slot c.args.desk.now.key c.certified.result c.in-Ok.ensures.slot c.requires.key read sealed c.certified.ensures.bit c.certified.ensures.serial in
+    let certificate = slot_certificate server c.args.desk.now.trust draft old ready kept c.in-Ok.slot c.args.desk.now.key c.certified.result c.in-Ok.ensures.slot c.requires.key read sealed c.certified.ensures.bit c.certified.ensures.serial in
     let says : IsReserved ready c.reserve.new.self c.reserve.result = record { shut = c.reserve.ensures.shut; full = c.reserve.ensures.full; shuts = c.reserve.ensures.shuts } in
-    slot_given request moment server c.args.reply.now draft is c.requires.answer old ready c.reserve.new.self kept c.reserve.result says c.in-Ok.slot (view_issued c.certified.result) c.in-Ok.is added certificate)
+    slot_given request moment server c.args.desk.now.trust c.args.reply.now draft is c.requires.answer old ready c.reserve.new.self kept c.reserve.result says c.in-Ok.slot (view_issued c.certified.result) c.in-Ok.is added certificate)
 
 pub returns-in-Ok-clause-allowed : goal.returns-in-Ok-clause-allowed
 returns-in-Ok-clause-allowed g c = λ transaction.
@@ -49,8 +49,8 @@ returns-in-Ok-clause-allowed g c = λ transaction.
     let room = subst (IsRoomOf c.in_ok-room.room (view_draft draft)) c.as_slice.ensures c.in_ok-room.ensures in
     let sealed = c.certified.ensures.octets (view_draft draft) server.certificates room in
     let read = λ (f : Fits draft_type 32 (view_draft draft)). c.records_are_read_again.ensures server.certificates (view_draft draft) server.some server.few server.decoded f (omega (arith, c.requires.short)) in
-    let certificate = slot_certificate server draft old ready kept c.in-Ok.slot c.args.desk.now.key c.certified.result c.in-Ok.ensures.slot c.requires.key read sealed c.certified.ensures.bit c.certified.ensures.serial in
-    slot_leaves server draft old ready c.reserve.new.self kept c.reserve.ensures.same c.certified.result added certificate)
+    let certificate = slot_certificate server c.args.desk.now.trust draft old ready kept c.in-Ok.slot c.args.desk.now.key c.certified.result c.in-Ok.ensures.slot c.requires.key read sealed c.certified.ensures.bit c.certified.ensures.serial in
+    slot_leaves server c.args.desk.now.trust draft old ready c.reserve.new.self kept c.reserve.ensures.same c.certified.result added certificate)
 
 pub returns-in-Ok-clause-images : goal.returns-in-Ok-clause-images
 returns-in-Ok-clause-images g c = λ told.
@@ -80,7 +80,7 @@ returns-clause-given g c = λ request moment is.
     let kept : IsReady old ready = record { same = c.prepare.ensures.same; list = c.prepare.ensures.list; shut = c.prepare.ensures.shut; fits = c.len-front.ensures.kept.fits } in
     let says : IsReserved ready c.reserve.new.self c.reserve.result = record { shut = c.reserve.ensures.shut; full = c.reserve.ensures.full; shuts = c.reserve.ensures.shuts } in
     IfOk-weaker c.noticed.result _ _ (λ i told.
-    refusal_given request moment c.args.desk.now.server reply c.args.draft.now is c.requires.answer old ready c.reserve.new.self kept c.reserve.result says c.in-Err.refusal (view_issued i) c.in-Err.is
+    refusal_given request moment c.args.desk.now.server c.args.desk.now.trust reply c.args.draft.now is c.requires.answer old ready c.reserve.new.self kept c.reserve.result says c.in-Err.refusal (view_issued i) c.in-Err.is
     c.in-Err.ensures.unchanged (told ∙ ap (notice_for reply) c.bit_of.ensures)) c.noticed.ensures.given)
 
 pub returns-clause-allowed : goal.returns-clause-allowed

@@ -1,4 +1,4 @@
-use Rattle.std.proofs.Common.{◌≡◌, ◌++◌, List, ℕ, true≢false, sym}
+use Rattle.std.proofs.Common.{true≢false, sym}
 use Rattle.std.specs.String.{string_bytes}
 use Rattle.dv_show.proofs.LengthLemmas.{text_is_short}
 use Rattle.dv_show.proofs.ShowLemmas.{not_shown, showing_more, shown_all}
