@@ -14,7 +14,7 @@ use Rattle.dv_commands.specs.declared.refusals.Init.{Init}
 use Rattle.dv_commands.specs.declared.refusals.Init.TheVariants.{Create, Fault as InitFault, Put as InitPut, Memory as InitMemory}
 use Rattle.dv_commands.specs.Runs.{IsRunOn, IsRunOnMade}
 use Rattle.dv_commands.specs.Answers.{IsCertificateOf, IsRemade, PutsAgain, Reissues, PutsFirst, Inits, own_entry, own_octets}
-use Rattle.dv_commands.specs.Sending.{Sends}
+use Rattle.dv_session.specs.Sending.{Sends}
 use Rattle.dv_commands.proofs.CertificateLemmas.{unreadable}
 use Rattle.dv_commands.proofs.SendingLemmas.{cut_after, put_cuts, put_sends, sends_after, sends_nothing}
 

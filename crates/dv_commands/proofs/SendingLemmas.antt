@@ -4,7 +4,7 @@ use Rattle.std.proofs.lemmas.List.{append-nil}
 use Rattle.std.specs.Prelude.{Result, Ok}
 use Rattle.dv_outside.specs.Station.{Content, Keeps, Leaves, Puts, Silent}
 use Rattle.dv_outside.proofs.Moments.{le_or_lt, keeps_none, keeps_then, sent_after, sent_at_end}
-use Rattle.dv_commands.specs.Sending.{Sends, SendsCut, SendsFrontOf}
+use Rattle.dv_session.specs.Sending.{Sends, SendsCut, SendsFrontOf}
 
 -- a silent run sends nothing
 pub sends_nothing : (a b : Content) → Keeps a b → Silent a b → Sends [] a b

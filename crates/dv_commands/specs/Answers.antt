@@ -22,7 +22,7 @@ use Rattle.dv_x509.specs.Own.{OwnTbs}
 use Rattle.dv_draft.specs.OwnRecords.{own_record, view_own}
 use Rattle.dv_draft.specs.Records.{record_in}
 use Rattle.dv_cert.specs.Certificates.{certificate_of, own_signed}
-use Rattle.dv_commands.specs.Sending.{Sends, SendsCut}
+use Rattle.dv_session.specs.Sending.{Sends, SendsCut}
 use Rattle.dv_commands.specs.Runs.{IsRunOn, IsRunOnMade}
 use Rattle.dv_commands.specs.declared.refusals.Reissue.{Reissue}
 use Rattle.dv_commands.specs.declared.refusals.Reissue.TheVariants.{Open as NotOpened, Absent, Record, Fault as ReissueFault, Put as ReissuePut, Memory as ReissueMemory}

@@ -1,4 +1,4 @@
 pub mod Refusals
-pub mod Sending
 pub mod Runs
 pub mod Answers
+pub mod Serving
