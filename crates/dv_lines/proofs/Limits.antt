@@ -9,8 +9,8 @@ use Rattle.dv_words.specs.Number.{number_of}
 use Rattle.dv_words.specs.Uses.{Text, Use, others_of, uses_of, value_of}
 use Rattle.dv_lines.specs.declared.line.Line.{Line}
 use Rattle.dv_lines.specs.declared.faulty.NoLine.{NoLine}
-use Rattle.dv_lines.specs.Values.{first_of, moment_of, name_of, nonce_of, number_within, optional, period_of, policy_of, service_of, until_of, within}
-use Rattle.dv_lines.specs.Line.{init, init_by, init_of, init_options, IsPolicy, KeepsLimits, line_at, line_of, register_of, reissue, reissue_by, reissue_of, request, request_by, request_of, request_options, serve, serve_by, serve_of, serve_options, show_by, show_of, Told, told_by, IsRead}
+use Rattle.dv_lines.specs.Values.{chain_of, first_of, moment_of, name_of, nonce_of, number_within, optional, period_of, policy_of, service_of, until_of, within}
+use Rattle.dv_lines.specs.Line.{init, init_by, init_of, init_options, IsPolicy, KeepsLimits, line_at, line_of, register_of, reissue, reissue_by, reissue_of, request, request_by, request_of, request_options, serve, serve_by, serve_of, serve_options, show_by, show_of, single_by, Told, told_by, validate, validate_by, IsRead}
 use Rattle.dv_lines.proofs.Policies.{policy_limits}
 
 -- a value that keeps its limits where it is there
@@ -53,6 +53,13 @@ name_keeps text =
       | inr f ↦ rw f tt
     ]
 
+chain_keeps : (files : List Text) → Keeps (λ (fs : List Text). (1 ≤ length fs) × (length fs ≤ 16)) (chain_of files)
+chain_keeps files =
+    elim (cases_Bool (leb 1 (length files) && leb (length files) 16)) [
+      | inl t ↦ let parts = and_parts _ _ t in rw t (leb-true 1 (length files) parts.0, leb-true (length files) 16 parts.1)
+      | inr f ↦ rw f tt
+    ]
+
 until_keeps : (from days : ℕ) → 1 ≤ days → Keeps (λ u. from < u) (until_of from days)
 until_keeps from days some =
     elim (cases_Bool (leb (from + days * 86_400) last_second)) [ inl t ↦ rw t (omega arith) | inr f ↦ rw f tt ]
@@ -76,14 +83,34 @@ policy_keeps (Some text) = go (policy_of text) refl
 
 -- ---- lines
 
+-- one of several
+choice_keeps : (b : Bool) (x y : Option Told) → Keeps KeepsLimits x → Keeps KeepsLimits y → Keeps KeepsLimits (cond b x y)
+choice_keeps true x y h k = h
+choice_keeps false x y h k = k
+
+single_keeps : (service : Text) (files : List Text) (digits time : Option Text) → Keeps KeepsLimits (single_by service files digits time)
+single_keeps service [] digits time = tt
+single_keeps service (a ∷ b ∷ more) digits time = tt
+single_keeps service (a ∷ []) digits time =
+    keeps_then (λ s. Unit {0}) KeepsLimits _ (service_of service) (keeps_any (service_of service))
+    (λ s _. keeps_then (λ n. Unit {0}) KeepsLimits _ (optional nonce_of digits) (keeps_any (optional nonce_of digits))
+    (λ n _. keeps_map (λ t. Unit {0}) KeepsLimits (request s a n) (optional moment_of time) (keeps_any (optional moment_of time)) (λ t _. tt)))
+
+validate_keeps : (files : List Text) (digits time : Option Text) → Keeps KeepsLimits (validate_by files digits time)
+validate_keeps files digits time =
+    keeps_then (λ (fs : List Text). (1 ≤ length fs) × (length fs ≤ 16)) KeepsLimits _ (chain_of files) (chain_keeps files)
+    (λ fs h. keeps_then (λ n. Unit {0}) KeepsLimits _ (optional nonce_of digits) (keeps_any (optional nonce_of digits))
+    (λ n _. keeps_map (λ t. Unit {0}) KeepsLimits (validate fs n) (optional moment_of time) (keeps_any (optional moment_of time)) (λ t _. h)))
+
 request_keeps : (words : List Text) (digits time : Option Text) → Keeps KeepsLimits (request_by words digits time)
 request_keeps [] digits time = tt
-request_keeps (a ∷ []) digits time = tt
-request_keeps (a ∷ b ∷ c ∷ more) digits time = tt
-request_keeps (a ∷ b ∷ []) digits time =
-    keeps_then (λ s. Unit {0}) KeepsLimits _ (service_of a) (keeps_any (service_of a))
-    (λ s _. keeps_then (λ n. Unit {0}) KeepsLimits _ (optional nonce_of digits) (keeps_any (optional nonce_of digits))
-    (λ n _. keeps_map (λ t. Unit {0}) KeepsLimits (request s b n) (optional moment_of time) (keeps_any (optional moment_of time)) (λ t _. tt)))
+request_keeps (service ∷ files) digits time =
+    choice_keeps (bytes_eq service (codes "cpkc")) _ _ (validate_keeps files digits time) (single_keeps service files digits time)
+
+pub request_line_keeps : (words : List Text) → Keeps KeepsLimits (option_and_then request_of (uses_of request_options words))
+request_line_keeps words =
+    keeps_then (λ s. Unit {0}) KeepsLimits request_of (uses_of request_options words) (keeps_any (uses_of request_options words))
+    (λ s _. request_keeps (others_of s) (value_of (codes "nonce") s) (value_of (codes "at") s))
 
 show_keeps : (words : List Text) → Keeps KeepsLimits (show_by words)
 show_keeps [] = tt
@@ -122,16 +149,11 @@ pub init_line_keeps : (words : List Text) → Keeps KeepsLimits (line_at init_op
 init_line_keeps words =
     at_keeps init_options init_of words (λ r s. init_keeps r (others_of s) (value_of (codes "from") s) (value_of (codes "days") s) (value_of (codes "first") s))
 
--- one of several
-choice_keeps : (b : Bool) (x y : Option Told) → Keeps KeepsLimits x → Keeps KeepsLimits y → Keeps KeepsLimits (cond b x y)
-choice_keeps true x y h k = h
-choice_keeps false x y h k = k
-
 line_keeps : (words : List Text) → Keeps KeepsLimits (line_of words)
 line_keeps [] = tt
 line_keeps (command ∷ rest) =
     choice_keeps (bytes_eq command (codes "request")) _ _
-    (keeps_then (λ s. Unit {0}) KeepsLimits request_of (uses_of request_options rest) (keeps_any (uses_of request_options rest)) (λ s _. request_keeps (others_of s) (value_of (codes "nonce") s) (value_of (codes "at") s)))
+    (request_line_keeps rest)
     (choice_keeps (bytes_eq command (codes "show")) _ _
     (keeps_then (λ s. Unit {0}) KeepsLimits show_of (uses_of [] rest) (keeps_any (uses_of [] rest)) (λ s _. show_keeps (others_of s)))
     (choice_keeps (bytes_eq command (codes "init")) _ _

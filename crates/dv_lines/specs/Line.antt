@@ -8,9 +8,9 @@ use Rattle.dv_schema.specs.Rules.{is_oid}
 use Rattle.dv_schema.specs.Tlv.{tlv}
 use Rattle.dv_words.specs.Number.{number_of}
 use Rattle.dv_words.specs.Uses.{Text, Use, is_dashed, others_of, uses_of, value_of}
-use Rattle.dv_lines.specs.Values.{first_of, moment_of, name_of, nonce_of, optional, period_of, policy_of, service_of}
+use Rattle.dv_lines.specs.Values.{chain_of, first_of, moment_of, name_of, nonce_of, optional, period_of, policy_of, service_of}
 use Rattle.dv_lines.specs.declared.line.Line.{Line}
-use Rattle.dv_lines.specs.declared.line.Line.TheVariants.{Request, Show, Init, Serve, Reissue}
+use Rattle.dv_lines.specs.declared.line.Line.TheVariants.{Request, Validate, Show, Init, Serve, Reissue}
 use Rattle.dv_lines.specs.declared.service.Service.{Service}
 use Rattle.dv_lines.specs.declared.nonce.Nonce.{Nonce}
 use Rattle.dv_lines.specs.declared.policy.Policy.{Policy}
@@ -21,6 +21,8 @@ use Rattle.dv_lines.specs.declared.faulty.NoLine.TheVariants.{Memory}
 pub data Told : Type 0 where
   -- `request SERVICE FILE`, with the nonce's octets and the moment's second
   request : (service : Service) (file : Text) (nonce : Option (List ℕ)) (at : Option ℕ) → Told
+  -- `request cpkc FILE..`, the target's file and then those of its chain, with the same
+  validate : (files : List Text) (nonce : Option (List ℕ)) (at : Option ℕ) → Told
   -- `show FILE`
   show : (file : Text) → Told
   -- `init REGISTER SEED NAME`, with the first and the last second of the key, and the serial of its certificate
@@ -30,16 +32,28 @@ pub data Told : Type 0 where
   -- `reissue REGISTER SEED SERIAL`
   reissue : (register seed : Text) (serial : ℕ) → Told
 
--- ---- request SERVICE FILE [--nonce HEX] [--at TIME]
+-- ---- request SERVICE FILE [--nonce HEX] [--at TIME], and request cpkc FILE.. with the same options
 
 abbrev pub request_options : List Text
 request_options = codes "nonce" ∷ codes "at" ∷ []
 
-abbrev pub request_by : List Text → Option Text → Option Text → Option Told
-request_by (service ∷ file ∷ []) digits time =
+-- request SERVICE FILE, of a service that one file is asked for
+abbrev pub single_by : Text → List Text → Option Text → Option Text → Option Told
+single_by service (file ∷ []) digits time =
     option_and_then (λ s. option_and_then (λ n. option_map (request s file n) (optional moment_of time)) (optional nonce_of digits))
     (service_of service)
-request_by _ digits time = None
+single_by service _ digits time = None
+
+-- request cpkc FILE..
+abbrev pub validate_by : List Text → Option Text → Option Text → Option Told
+validate_by files digits time =
+    option_and_then (λ fs. option_and_then (λ n. option_map (validate fs n) (optional moment_of time)) (optional nonce_of digits))
+    (chain_of files)
+
+abbrev pub request_by : List Text → Option Text → Option Text → Option Told
+request_by [] digits time = None
+request_by (service ∷ files) digits time =
+    if bytes_eq service (codes "cpkc") then validate_by files digits time else single_by service files digits time
 
 abbrev pub request_of : List Use → Option Told
 request_of said = request_by (others_of said) (value_of (codes "nonce") said) (value_of (codes "at") said)
@@ -113,6 +127,7 @@ line_of (command ∷ rest) =
 abbrev pub tool_line : Option Told → Option Told
 tool_line None = None
 tool_line (Some (request service file nonce at)) = Some (request service file nonce at)
+tool_line (Some (validate files nonce at)) = Some (validate files nonce at)
 tool_line (Some (show file)) = Some (show file)
 tool_line (Some (init register seed name from until first)) = Some (init register seed name from until first)
 tool_line (Some (serve register seed certificate trust policy)) = None
@@ -128,6 +143,7 @@ abbrev pub KeepsLimits : Told → Type 0
 KeepsLimits (init register seed name from until first) =
     (1 ≤ length name) × (length name ≤ 64) × (from < until) × (1 ≤ first) × (first ≤ 2 ^ 62)
 KeepsLimits (serve register seed certificate trust policy) = ForSome policy IsPolicy
+KeepsLimits (validate files _ _) = (1 ≤ length files) × (length files ≤ 16)
 KeepsLimits _ = Unit {0}
 
 -- ---- what the program's values say
@@ -147,6 +163,7 @@ policy_octets policy = policy.octets.items
 -- the values of a line of the code
 abbrev pub told_by : Line → Told
 told_by (Request service file nonce at) = request service file.now (option_map nonce_octets nonce) at
+told_by (Validate files nonce at) = validate (map (λ f. f.now) files.items) (option_map nonce_octets nonce) at
 told_by (Show file) = show file.now
 told_by (Init register seed name from until first) = init register.now seed.now name.now from until first
 told_by (Serve register seed certificate trust policy) =

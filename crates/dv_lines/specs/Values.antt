@@ -19,6 +19,10 @@ service_of word =
     if bytes_eq word (codes "vsd") then Some Vsd else
     if bytes_eq word (codes "ccpd") then Some Ccpd else None
 
+-- FILE.. of certificates: 1 to 16
+abbrev pub chain_of : List Text → Option (List Text)
+chain_of files = if nat_le 1 (length files) && nat_le (length files) 16 then Some files else None
+
 -- HEX of a nonce: an even number of hexadecimal digits of either case, whose octets, 1 to 64, are the fewest that say an
 -- INTEGER (X.690 8.3.2)
 abbrev pub nonce_of : Text → Option (List ℕ)

@@ -37,7 +37,7 @@ pub enum Faulty<'a> {
     #[error("unexpected argument '{0}' found")]
     Unexpected(&'a str),
     /// The word names no service.
-    #[error("'{0}' is no SERVICE: cpd, vsd or ccpd")]
+    #[error("'{0}' is no SERVICE: cpd, vsd, cpkc or ccpd")]
     Service(&'a str),
     /// The value isn't an even number of hexadecimal digits, from 2 to 128.
     #[error("'{0}' is no HEX: an even number of hexadecimal digits, from 2 to 128")]

@@ -22,6 +22,7 @@ mod request;
 mod serve;
 mod service;
 mod show;
+mod validate;
 mod values;
 mod words;
 

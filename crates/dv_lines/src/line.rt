@@ -19,6 +19,15 @@ pub enum Line<'a> {
         /// The request's time.
         at: Option<Moment>,
     },
+    /// `request cpkc FILE.. [--nonce HEX] [--at TIME]`: the request for the validation of a certificate.
+    Validate {
+        /// The names of the files: the target's, and then those of the certificates of its chain, 1 to 16 in all.
+        files: Vec<&'a str>,
+        /// The request's nonce.
+        nonce: Option<Nonce>,
+        /// The request's time.
+        at: Option<Moment>,
+    },
     /// `show FILE`: what the file's values are, in words.
     Show {
         /// The file's name.

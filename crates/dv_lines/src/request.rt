@@ -1,10 +1,11 @@
 //! The line of `request`.
 ghost use Rattle.std.specs.Prelude.{◌≡◌, ◌<◌, map, length, drop, option_map, option_and_then, string_bytes};
 ghost use Rattle.dv_words.specs.Uses.{uses_of};
-ghost use Rattle.dv_lines.specs.Line.{IsRead, request_by, request_of, request_options, texts_of, told_by, words_in};
+ghost use Rattle.dv_lines.specs.Line.{IsRead, request_by, request_of, request_options, single_by, texts_of, told_by, words_in};
 
 use crate::faulty::{Faulty, NoLine, no_line};
 use crate::line::Line;
+use crate::validate::validate_with;
 use crate::values::{optional_moment, optional_nonce, service};
 use dv_words::{OptionForm, parse};
 use std::alloc::Global;
@@ -21,19 +22,19 @@ static OPTIONS: [OptionForm; 2] = [
 ];
 
 /// The line with this service and file, and these values of the options.
-fn request_with<'a>(
+fn single_with<'a>(
     alloc: Global,
-    words: Option<&[&'a str]>,
+    word: &'a str,
+    files: &[&'a str],
     nonce: Option<&'a str>,
     at: Option<&'a str>,
 ) -> Result<Line<'a>, NoLine<'a>>
-    ensures { IsRead told_by (request_by (words_in words.entry) (option_map (λ t. t.now) nonce.entry) (option_map (λ t. t.now) at.entry)) result }
+    ensures { IsRead told_by (single_by word.entry.now (map (λ f. f.now) files.entry.now) (option_map (λ t. t.now) nonce.entry) (option_map (λ t. t.now) at.entry)) result }
 {
-    let (word, file) = match words {
-        Some([word, file]) => (*word, *file),
-        Some([_, _, word, ..]) => return Err(NoLine::Faulty(Faulty::Unexpected(word))),
-        Some([_]) => return Err(NoLine::Faulty(Faulty::Missing("FILE"))),
-        _ => return Err(NoLine::Faulty(Faulty::Missing("SERVICE"))),
+    let file = match files {
+        [file] => *file,
+        [_, word, ..] => return Err(NoLine::Faulty(Faulty::Unexpected(word))),
+        [] => return Err(NoLine::Faulty(Faulty::Missing("FILE"))),
     };
     let Some(service) = service(word) else {
         return Err(NoLine::Faulty(Faulty::Service(word)));
@@ -46,6 +47,25 @@ fn request_with<'a>(
         nonce,
         at,
     })
+}
+
+/// The line with these words, and these values of the options.
+fn request_with<'a>(
+    alloc: Global,
+    words: Option<&[&'a str]>,
+    nonce: Option<&'a str>,
+    at: Option<&'a str>,
+) -> Result<Line<'a>, NoLine<'a>>
+    ensures { IsRead told_by (request_by (words_in words.entry) (option_map (λ t. t.now) nonce.entry) (option_map (λ t. t.now) at.entry)) result }
+{
+    let Some(words) = words else {
+        return Err(NoLine::Faulty(Faulty::Missing("SERVICE")));
+    };
+    match words {
+        [] => Err(NoLine::Faulty(Faulty::Missing("SERVICE"))),
+        [service, files @ ..] if *service == "cpkc" => validate_with(alloc, files, nonce, at),
+        [service, files @ ..] => single_with(alloc, service, files, nonce, at),
+    }
 }
 
 /// The line of `request`, the word with which these words begin.

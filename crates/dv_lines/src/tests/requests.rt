@@ -22,6 +22,24 @@ fn requests(rt: HostRuntime) -> Result<(), Fail> {
 }
 
 #[rattlefmt::skip]
+const CHAINS: [Row; 9] = [
+    (&["request", "cpkc", "abc"], "Validate { files: [\"abc\"], nonce: None, at: None }"),
+    (&["request", "cpkc", "abc", "ca", "abc"], "Validate { files: [\"abc\", \"ca\", \"abc\"], nonce: None, at: None }"),
+    (&["request", "cpkc", "--nonce", "05", "abc", "--at=19500101000001Z", "ca"], "Validate { files: [\"abc\", \"ca\"], nonce: Some(Nonce { octets: [5] }), at: Some(Moment(1)) }"),
+    (&["request", "--", "cpkc", "-abc", "--at"], "Validate { files: [\"-abc\", \"--at\"], nonce: None, at: None }"),
+    (&["request", "cpkc", "a", "b", "c", "d", "e", "f", "g", "h", "i", "j", "k", "l", "m", "n", "o", "p"], "Validate { files: [\"a\", \"b\", \"c\", \"d\", \"e\", \"f\", \"g\", \"h\", \"i\", \"j\", \"k\", \"l\", \"m\", \"n\", \"o\", \"p\"], nonce: None, at: None }"),
+    (&["request", "cpkc", "a", "b", "c", "d", "e", "f", "g", "h", "i", "j", "k", "l", "m", "n", "o", "p", "q"], "unexpected argument 'q' found"),
+    (&["request", "cpkc"], "FILE is missing"),
+    (&["request", "cpkc", "abc", "--nonce", "0005"], "'0005' is no nonce: a shorter HEX spells the same number"),
+    (&["request", "cpkc", "abc", "--at", "2025"], "'2025' is no TIME: YYYYMMDDHHMMSSZ, from 1950 to 9999"),
+];
+
+#[test]
+fn chains(rt: HostRuntime) -> Result<(), Fail> {
+    compare(&rt, &CHAINS)
+}
+
+#[rattlefmt::skip]
 const BEHIND_TWO_DASHES: [Row; 9] = [
     (&["request", "cpd", "--", "-"], "Request { service: Cpd, file: \"-\", nonce: None, at: None }"),
     (&["request", "--", "cpd", "-abc"], "Request { service: Cpd, file: \"-abc\", nonce: None, at: None }"),
