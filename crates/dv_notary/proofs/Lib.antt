@@ -1,3 +1,7 @@
-pub mod Lines
+pub mod CertificateLemmas
+pub mod ChainLemmas
+pub mod FileLemmas
+pub mod LineLemmas
 pub mod Putting
 pub mod RequestLemmas
+pub mod ValidateLemmas

@@ -1,4 +1,4 @@
-pub mod Line
+pub mod Files
 pub mod Server
 pub mod Status
 pub mod Tool

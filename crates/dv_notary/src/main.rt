@@ -2,17 +2,20 @@
 //!
 //! A top call is generic over what it is lent ([`dv_outside`]'s traits), so its contract, which says what each command puts
 //! and when each exit status comes, holds over files, over memory and over any other world. There are two top calls:
-//! [`server::run_serve`] has the line of the server, and [`tool::run_tool`] those of all other commands, so far `request` and
-//! `show`.
+//! [`server::run_serve`] has the line of the server, and [`tool::run_tool`] those of all other commands: `request`, `init`,
+//! `reissue` and `show`.
 //!
-//! The crate stands on `dv_words`, which takes the words apart, on `dv_request` and `dv_session`, which make the octets, and on
-//! `dv_outside`.
+//! The crate stands on `dv_lines`, which reads the words, on `dv_files`, which reads the seed and the certificates, on `dv_request`, `dv_show` and
+//! `dv_commands`, which do the work, on `dv_session`, which serves, and on `dv_outside`.
 #![tactic(auto)]
 
-mod line;
+mod files;
+mod say;
 mod server;
 mod status;
 mod tool;
+#[cfg(test)]
+mod trial;
 mod usage;
 
 use crate::server::run_serve;

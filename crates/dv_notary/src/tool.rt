@@ -1,69 +1,27 @@
 //! The commands that end by themselves: all but the server.
-ghost use Rattle.std.specs.Prelude.{◌≡◌, ◌≢◌, ◌⊎◌, ◌↔◌, ◌≤◌, ℕ, List, Option, IfSome, None, Some};
+ghost use Rattle.std.specs.Prelude.{◌≡◌, ◌≢◌, ◌↔◌, ◌≤◌, None, Some};
 ghost use Rattle.dv_outside.specs.Causes.{Rose};
-ghost use Rattle.dv_outside.specs.Shelf.{IsLongerThan};
-ghost use Rattle.dv_outside.specs.Station.{Spends};
-ghost use Rattle.dv_notary.specs.declared.line.Service.{Service};
-ghost use Rattle.dv_notary.specs.Line.{line_of, tool_line, texts_of, told_by, request as request_line, serve as serve_line, show as show_line};
-ghost use Rattle.dv_show.specs.Show.{IsNotShown};
+ghost use Rattle.dv_lines.specs.Line.{KeepsLimits, line_of, texts_of, Told, told_by, tool_line, serve as serve_line};
+ghost use Rattle.dv_notary.specs.Server.{IsServe};
 ghost use Rattle.dv_notary.specs.Status.{number_of};
-ghost use Rattle.dv_notary.specs.Tool.{IsStatus, PutsRequest, PutsShown, file_limit};
+ghost use Rattle.dv_notary.specs.Tool.{Ends, IsToolStatus};
 
+mod init;
+mod reissue;
 mod request;
 mod show;
+mod validate;
 
-use crate::line::{Line, read_words};
 use crate::status::Status;
 use crate::usage::say_no_line;
-use dv_outside::{Clock, Diag, Shelf, ShelfRefusal, Source, Station};
+use dv_lines::{Line, read_words};
+use dv_outside::{Clock, Diag, Shelf, Source, Station};
+use init::{NewRegister, make_register};
+use reissue::{Again, put_again};
 use request::{Terms, put_request};
 use show::put_shown;
 use std::alloc::Global;
-
-/// Writes `name: text` on the diagnostics, or the text alone where there is no memory for both.
-fn say<E: Diag>(alloc: Global, diag: &mut E, name: &str, text: &str) {
-    match format!(in alloc; "{name}: {text}") {
-        Ok(line) => diag.line(line.as_str()),
-        Err(_) => diag.line(text),
-    }
-}
-
-/// Says that a file has more octets than this.
-fn say_too_long<E: Diag>(alloc: Global, diag: &mut E, file: &str, limit: u64) {
-    match format!(in alloc; "the file is longer than {limit} octets") {
-        Ok(text) => say(alloc, diag, file, text.as_str()),
-        Err(_) => say(alloc, diag, file, "the file is too long"),
-    }
-}
-
-/// Says on the diagnostics why a file of at most so many octets wasn't given, and gives the status for it.
-fn refused<E: Diag>(
-    alloc: Global,
-    diag: &mut E,
-    file: &str,
-    limit: u64,
-    refusal: ShelfRefusal,
-) -> Status
-    ensures too_long { (result ≡ Status.File) ↔ (refusal ≡ ShelfRefusal.TooLong) }
-    ensures failed { (result ≡ Status.Shelf) ↔ (refusal ≡ ShelfRefusal.Failed) }
-    ensures memory { (result ≡ Status.Memory) ↔ (refusal ≡ ShelfRefusal.Memory) }
-    ensures status { IsStatus (number_of result) }
-{
-    match refusal {
-        ShelfRefusal::Failed => {
-            say(alloc, diag, file, "the file can't be read");
-            Status::Shelf
-        }
-        ShelfRefusal::TooLong => {
-            say_too_long(alloc, diag, file, limit);
-            Status::File
-        }
-        ShelfRefusal::Memory => {
-            say(alloc, diag, file, "there is not enough memory for the file");
-            Status::Memory
-        }
-    }
-}
+use validate::{Validation, put_validation};
 
 /// Runs the command of a line.
 fn run_line<V: Station, F: Shelf, E: Diag>(
@@ -71,29 +29,18 @@ fn run_line<V: Station, F: Shelf, E: Diag>(
     line: &Line<'_>,
     shelf: &mut F,
     diag: &mut E,
-    station: &mut V,
-) -> Status
-    ensures status { IsStatus (number_of result) }
-    ensures words { (result ≡ Status.Words) ↔ (told_by line.now ≡ serve_line) }
-    ensures put { (service : Service) (file : List ℕ) (nonce : Option (List ℕ)) (at : Option ℕ)
-        → told_by line.now ≡ request_line service file nonce at → (result ≡ Status.Done) ⊎ (result ≡ Status.Put)
-        → PutsRequest (F.files shelf.old) service file nonce at (number_of result) (V.tells station.old) (V.content station.old) (V.content station.new) }
-    ensures long { (service : Service) (file : List ℕ) (nonce : Option (List ℕ)) (at : Option ℕ)
-        → told_by line.now ≡ request_line service file nonce at → result ≡ Status.File
-        → IfSome (F.files shelf.old) (λ files. IsLongerThan (file_limit service) (files file)) }
-    ensures show { (file : List ℕ) → told_by line.now ≡ show_line file → (result ≡ Status.Done) ⊎ (result ≡ Status.Put)
-        → PutsShown (F.files shelf.old) file (number_of result) (V.tells station.old) (V.content station.old) (V.content station.new) }
-    ensures not_shown { (file : List ℕ) → told_by line.now ≡ show_line file → result ≡ Status.File
-        → IfSome (F.files shelf.old) (λ files. IsNotShown (files file)) }
-    ensures quiet { result ≢ Status.Done → result ≢ Status.Put → station.new ≡ station.old }
-    ensures put_fault { result ≡ Status.Put → Rose (V.counts station.old).put_faults (V.counts station.new).put_faults }
-    ensures shelf_fault { result ≡ Status.Shelf → Rose (F.faults shelf.old) (F.faults shelf.new) }
+    station: V,
+) -> (Status, V)
+    requires { KeepsLimits (told_by line.now) }
+    ensures ends { Ends V.tells V.content V.counts (F.files shelf.old) (told_by line.now) (number_of result.0) station result.1 }
+    ensures status { IsToolStatus (number_of result.0) }
+    ensures words { (result.0 ≡ Status.Words) ↔ IsServe (Some (told_by line.now)) }
+    ensures put_fault { result.0 ≡ Status.Put → Rose (V.counts station).put_faults (V.counts result.1).put_faults }
+    ensures fault { result.0 ≡ Status.Station → Rose (V.counts station).faults (V.counts result.1).faults }
+    ensures shelf_fault { result.0 ≡ Status.Shelf → Rose (F.faults shelf.old) (F.faults shelf.new) }
     ensures shelf_later { F.faults shelf.old ≤ F.faults shelf.new }
     ensures shelf_files { F.files shelf.new ≡ F.files shelf.old }
-    ensures spends { Spends 1 16777216 (V.counts station.old) (V.counts station.new) }
-    ensures spends_little { (service : Service) (file : List ℕ) (nonce : Option (List ℕ)) (at : Option ℕ)
-        → told_by line.now ≡ request_line service file nonce at → Spends 1 262144 (V.counts station.old) (V.counts station.new) }
-    ensures tells { V.tells station.new ≡ V.tells station.old }
+    ensures tells { V.tells result.1 ≡ V.tells station }
 {
     match line {
         Line::Request {
@@ -107,12 +54,58 @@ fn run_line<V: Station, F: Shelf, E: Diag>(
                 nonce: nonce.as_ref(),
                 at: *at,
             };
-            put_request(alloc, &terms, file, shelf, diag, station)
+            let mut station = station;
+            let status = put_request(alloc, &terms, file, shelf, diag, &mut station);
+            (status, station)
         }
-        Line::Show { file } => put_shown(alloc, file, shelf, diag, station),
-        Line::Serve => {
+        Line::Validate { files, nonce, at } => {
+            let asked = Validation {
+                files,
+                nonce: nonce.as_ref(),
+                at: *at,
+            };
+            let mut station = station;
+            let status = put_validation(alloc, &asked, shelf, diag, &mut station);
+            (status, station)
+        }
+        Line::Show { file } => {
+            let mut station = station;
+            let status = put_shown(alloc, file, shelf, diag, &mut station);
+            (status, station)
+        }
+        Line::Init {
+            register,
+            seed,
+            name,
+            from,
+            until,
+            first,
+        } => {
+            let line = NewRegister {
+                register,
+                seed,
+                name,
+                from: *from,
+                until: *until,
+                first: *first,
+            };
+            make_register(alloc, &line, shelf, diag, station)
+        }
+        Line::Reissue {
+            register,
+            seed,
+            serial,
+        } => {
+            let line = Again {
+                register,
+                seed,
+                serial: *serial,
+            };
+            put_again(alloc, &line, shelf, diag, station)
+        }
+        Line::Serve { .. } => {
             diag.line("the line is the server's");
-            Status::Words
+            (Status::Words, station)
         }
     }
 }
@@ -120,18 +113,20 @@ fn run_line<V: Station, F: Shelf, E: Diag>(
 /// Runs the command that the words say, and hands the station back with the exit status.
 ///
 /// The words are those after the program's name. What the command reads and writes is what it is lent: files by `shelf`,
-/// the standard input by `source`, the moment by `clock`, lines for people by `diag`, and the output by `station`.
+/// the standard input by `source`, the moment by `clock`, lines for people by `diag`, and the output and the register's file by `station`.
 ///
 /// | Status | Comes |
 /// |---|---|
-/// | 0 | the request for the file, or a line for each of its values, was put |
+/// | 0 | what the command puts was put: the request for the file, a line for each of its values, the own certificate, or the certificate of the record |
 /// | 2 | exactly where the words are no line of such a command |
-/// | 3 | exactly where the file is longer than the limit, or for `show` isn't unsigned requests and notices one after another |
+/// | 3 | exactly where a file is longer than its limit or isn't what it should be; for `reissue` also where the register is refused, or the contents of the record are |
 /// | 5 | only where the station's count of failed puts rose in this call |
+/// | 6 | only where the station's count of faults rose in this call |
 /// | 8 | want of memory |
 /// | 10 | only where the shelf's count of faults rose in this call |
+/// | 12 | for `init` exactly where the register's file isn't empty, for `reissue` exactly where no record has the serial number |
 ///
-/// With every status but 0 and 5 no call of the station is made.
+/// With 2, 10, and 3 for a file no call of the station is made.
 pub fn run_tool<R: AllocGlobal, S: Source, V: Station, F: Shelf, C: Clock, E: Diag>(
     rt: &R,
     words: &[String],
@@ -141,32 +136,20 @@ pub fn run_tool<R: AllocGlobal, S: Source, V: Station, F: Shelf, C: Clock, E: Di
     diag: &mut E,
     station: V,
 ) -> (u8, V)
-    ensures status { IsStatus result.0 }
+    ensures status { IsToolStatus result.0 }
 
     // Want of memory may come also where the words are no line.
     ensures words { result.0 ≢ 8 → ((result.0 ≡ 2) ↔ (tool_line (line_of (texts_of words.now)) ≡ None)) }
+    ensures no_line { result.0 ≡ 2 → result.1 ≡ station }
 
-    // `request`: with 0 the request for the file was put by one call, and with 5 a part of it.
-    ensures put { (service : Service) (file : List ℕ) (nonce : Option (List ℕ)) (at : Option ℕ)
-        → line_of (texts_of words.now) ≡ Some (request_line service file nonce at) → (result.0 ≡ 0) ⊎ (result.0 ≡ 5)
-        → PutsRequest (F.files shelf.old) service file nonce at result.0 (V.tells station) (V.content station) (V.content result.1) }
-    ensures long { (service : Service) (file : List ℕ) (nonce : Option (List ℕ)) (at : Option ℕ)
-        → line_of (texts_of words.now) ≡ Some (request_line service file nonce at) → result.0 ≡ 3
-        → IfSome (F.files shelf.old) (λ files. IsLongerThan (file_limit service) (files file)) }
-
-    // `show`: the same for the lines of the file's values.
-    ensures show { (file : List ℕ) → line_of (texts_of words.now) ≡ Some (show_line file) → (result.0 ≡ 0) ⊎ (result.0 ≡ 5)
-        → PutsShown (F.files shelf.old) file result.0 (V.tells station) (V.content station) (V.content result.1) }
-    ensures not_shown { (file : List ℕ) → line_of (texts_of words.now) ≡ Some (show_line file) → result.0 ≡ 3
-        → IfSome (F.files shelf.old) (λ files. IsNotShown (files file)) }
+    // What the command of the line did.
+    ensures ends { (told : Told) → tool_line (line_of (texts_of words.now)) ≡ Some told
+        → Ends V.tells V.content V.counts (F.files shelf.old) told result.0 station result.1 }
 
     // What stands behind a fault, and what is left as it was.
     ensures put_fault { result.0 ≡ 5 → Rose (V.counts station).put_faults (V.counts result.1).put_faults }
+    ensures fault { result.0 ≡ 6 → Rose (V.counts station).faults (V.counts result.1).faults }
     ensures shelf_fault { result.0 ≡ 10 → Rose (F.faults shelf.old) (F.faults shelf.new) }
-    ensures quiet { result.0 ≢ 0 → result.0 ≢ 5 → result.1 ≡ station }
-    ensures spends { Spends 1 16777216 (V.counts station) (V.counts result.1) }
-    ensures spends_little { (service : Service) (file : List ℕ) (nonce : Option (List ℕ)) (at : Option ℕ)
-        → line_of (texts_of words.now) ≡ Some (request_line service file nonce at) → Spends 1 262144 (V.counts station) (V.counts result.1) }
     ensures tells { V.tells result.1 ≡ V.tells station }
     ensures shelf_later { F.faults shelf.old ≤ F.faults shelf.new }
     ensures shelf_files { F.files shelf.new ≡ F.files shelf.old }
@@ -180,8 +163,7 @@ pub fn run_tool<R: AllocGlobal, S: Source, V: Station, F: Shelf, C: Clock, E: Di
             return (status.number(), station);
         }
     };
-    let mut station = station;
-    let status = run_line(rt.alloc(), &line, shelf, diag, &mut station);
+    let (status, station) = run_line(rt.alloc(), &line, shelf, diag, station);
     (status.number(), station)
 }
 

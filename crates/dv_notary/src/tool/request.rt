@@ -6,11 +6,11 @@ ghost use Rattle.dv_outside.specs.Causes.{Rose};
 ghost use Rattle.dv_outside.specs.Shelf.{IsLongerThan};
 ghost use Rattle.dv_outside.specs.Station.{Spends};
 ghost use Rattle.dv_notary.specs.Status.{number_of};
-ghost use Rattle.dv_notary.specs.Tool.{IsStatus, PutsRequest, file_limit as limit_of_file, nonce_in, request_for};
+ghost use Rattle.dv_notary.specs.Tool.{IsPutStatus, PutsRequest, file_limit as limit_of_file, nonce_in, request_for};
 
-use super::refused;
-use crate::line::{Nonce, Service};
+use crate::say::refused;
 use crate::status::Status;
+use dv_lines::{Nonce, Service};
 use dv_outside::{Diag, Shelf, ShelfRefusal, Station};
 use dv_request::{Make, Material, Service as RequestService, make_request};
 use dv_time::Moment;
@@ -36,7 +36,7 @@ fn file_limit(service: Service) -> u64
 }
 
 /// The octets of the nonce, where there is one.
-fn octets_in<'a>(nonce: Option<&'a Nonce>) -> Option<&'a [u8]>
+pub(crate) fn octets_in<'a>(nonce: Option<&'a Nonce>) -> Option<&'a [u8]>
     ensures octets { option_copied result ≡ nonce_in nonce.entry }
     ensures good { is_good_nonce (option_copied result) ≡ true }
 {
@@ -91,7 +91,7 @@ pub(crate) fn put_request<V: Station, F: Shelf, E: Diag>(
     diag: &mut E,
     station: &mut V,
 ) -> Status
-    ensures status { IsStatus (number_of result) }
+    ensures status { IsPutStatus (number_of result) }
     ensures words { result ≢ Status.Words }
     ensures put { (result ≡ Status.Done) ⊎ (result ≡ Status.Put)
         → PutsRequest (F.files shelf.old) terms.now.service file.now (nonce_in terms.now.nonce) terms.now.at (number_of result) (V.tells station.old) (V.content station.old) (V.content station.new) }

@@ -4,9 +4,9 @@ ghost use Rattle.dv_outside.specs.Causes.{Rose};
 ghost use Rattle.dv_outside.specs.Station.{Spends};
 ghost use Rattle.dv_show.specs.Show.{IsNotShown};
 ghost use Rattle.dv_notary.specs.Status.{number_of};
-ghost use Rattle.dv_notary.specs.Tool.{IsStatus, PutsShown};
+ghost use Rattle.dv_notary.specs.Tool.{IsPutStatus, PutsShown};
 
-use super::{refused, say};
+use crate::say::{refused, say_place};
 use crate::status::Status;
 use dv_outside::{Diag, Shelf, ShelfRefusal, Station};
 use dv_show::{ShowFault, show_values};
@@ -14,14 +14,6 @@ use std::alloc::Global;
 
 /// The most octets of a file that is shown.
 const FILE_LIMIT: u64 = 16_777_216;
-
-/// Says that a file's values aren't shown, from this place in it on.
-fn say_place<E: Diag>(alloc: Global, diag: &mut E, file: &str, place: u64) {
-    match format!(in alloc; "refused at {place}") {
-        Ok(text) => say(alloc, diag, file, text.as_str()),
-        Err(_) => say(alloc, diag, file, "refused"),
-    }
-}
 
 /// Reads the file, and puts a line for each of its values.
 pub(crate) fn put_shown<V: Station, F: Shelf, E: Diag>(
@@ -31,7 +23,7 @@ pub(crate) fn put_shown<V: Station, F: Shelf, E: Diag>(
     diag: &mut E,
     station: &mut V,
 ) -> Status
-    ensures status { IsStatus (number_of result) }
+    ensures status { IsPutStatus (number_of result) }
     ensures words { result ≢ Status.Words }
     ensures put { (result ≡ Status.Done) ⊎ (result ≡ Status.Put)
         → PutsShown (F.files shelf.old) file.now (number_of result) (V.tells station.old) (V.content station.old) (V.content station.new) }

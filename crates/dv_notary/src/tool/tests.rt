@@ -52,7 +52,7 @@ const SIGNED: [u8; 17] = [
 ];
 
 /// How many lines the usage has.
-const USAGE_LINES: usize = 4;
+const USAGE_LINES: usize = 7;
 
 /// Which call of an object fails.
 #[derive(Clone, Copy)]
@@ -251,18 +251,22 @@ fn files_that_are_not_shown(rt: HostRuntime) -> Result<(), Fail> {
 
 #[test]
 fn faulty_lines(rt: HostRuntime) -> Result<(), Fail> {
-    let rows: [(&[&str], &str); 5] = [
+    let rows: [(&[&str], &str); 6] = [
         (
             &["request", "cpd", "abc", "abc"],
             "unexpected argument 'abc' found",
         ),
         (&["request", "cpd"], "FILE is missing"),
+        (&["request", "cpkc"], "FILE is missing"),
         (
             &["request", "cpd", "abc", "--nonce", "0005"],
             "'0005' is no nonce: a shorter HEX spells the same number",
         ),
         (&["show"], "FILE is missing"),
-        (&[], "there is no command: request, show or serve"),
+        (
+            &[],
+            "there is no command: request, init, serve, reissue or show",
+        ),
     ];
     for (words, line) in rows {
         assert!(rt; check_refused(&rt, words, Fault::None, 2, line)?, "{line}");
@@ -272,7 +276,8 @@ fn faulty_lines(rt: HostRuntime) -> Result<(), Fail> {
 
 #[test]
 fn other_lines(rt: HostRuntime) -> Result<(), Fail> {
-    let (status, station, diag) = run(&rt, &["serve"], Fault::None)?;
+    let words = ["serve", "register", "seed", "own", "trust"];
+    let (status, station, diag) = run(&rt, &words, Fault::None)?;
     assert_eq!(rt; status, 2);
     assert_eq!(rt; station.calls(), 0);
     assert_eq!(rt; diag.lines().len(), 1);

@@ -1,13 +1,16 @@
-use Rattle.std.proofs.Common.{◌≡◌, ◌∙◌, ℕ, List, Some, sym, subst}
-use Rattle.dv_notary.specs.Line.{line_of, show as show_line, texts_of, Told, told_by}
-use Rattle.dv_notary.specs.Tool.{PutsShown}
-use Rattle.dv_notary.proofs.Putting.{ended}
+-- Words that are a line aren't read for want of memory alone.
+use Rattle.std.proofs.Common.{◌≡◌, ◌∙◌, ℕ, ap, subst, sym}
+use Rattle.dv_lines.specs.Line.{line_of, texts_of}
+use Rattle.dv_notary.specs.declared.status.Status.TheVariants.{Memory}
+use Rattle.dv_notary.specs.Status.{number_of}
+use Rattle.dv_notary.specs.Tool.{Ends}
+use Rattle.dv_notary.proofs.LineLemmas.{memory_ends, memory_fault, tool_is_line}
 use Rattle.dv_notary.proofs.tool.run_tool.Goals as goal
 
-pub returns-clause-show : goal.returns-clause-show
-returns-clause-show g c = λ file is how.
-    let line : line_of (texts_of c.args.words.now) ≡ Some (told_by c.in-Ok.line) = c.in-Ok.ensures.line in
-    let same : told_by c.in-Ok.line ≡ show_line file = cc in
-    let puts = c.run_line-status.ensures.show file same (ended c.run_line-status.result c.number-2.result c.number-2.ensures how) in
-    subst (λ (n : ℕ). PutsShown (g.F.Shelf.files c.args.shelf.now) file n (g.V.Station.tells c.args.station) (g.V.Station.content c.args.station) (g.V.Station.content c.run_line-status.new.station))
-    (sym c.number-2.ensures) puts
+pub returns-in-Err-clause-ends : goal.returns-in-Err-clause-ends
+returns-in-Err-clause-ends g c = λ told is.
+    let memory : c.say_no_line-status.result ≡ Memory =
+    c.say_no_line-status.ensures.memory.1 (memory_fault c.in-Err.fault _ c.in-Err.ensures.line told (tool_is_line (line_of (texts_of c.args.words.now)) told is)) in
+    subst (λ (n : ℕ). Ends g.V.Station.tells g.V.Station.content g.V.Station.counts (g.F.Shelf.files c.args.shelf.now) told n c.args.station c.args.station)
+    (sym (c.number.ensures ∙ ap number_of memory))
+    (memory_ends g.V.Station.tells g.V.Station.content g.V.Station.counts (g.F.Shelf.files c.args.shelf.now) (line_of (texts_of c.args.words.now)) told c.args.station is)

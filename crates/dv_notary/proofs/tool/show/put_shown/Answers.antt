@@ -1,10 +1,11 @@
 -- The octets that were put are the lines for those that the shelf gave.
-use Rattle.std.proofs.Common.{◌≡◌, ◌∙◌, ◌≤◌, ℕ, List, length, sym, ap, subst, inl, inr, arith}
+use Rattle.std.proofs.Common.{ℕ, List, length, sym, ap, subst, inr, arith}
 use Rattle.std.specs.Prelude.{IfSome, Option, Some, None}
 use Rattle.std.specs.String.{string_bytes}
+use Rattle.dv_outside.proofs.Counting.{spends_less}
 use Rattle.dv_show.specs.Show.{IsNotShown, ShowOf}
-use Rattle.dv_notary.specs.Tool.{HasOctets}
-use Rattle.dv_notary.proofs.Putting.{put_done, put_cut, spends_less}
+use Rattle.dv_notary.specs.Files.{HasOctets}
+use Rattle.dv_notary.proofs.Putting.{put_done, put_cut}
 use Rattle.dv_notary.proofs.tool.show.put_shown.Goals as goal
 
 not_shown : (files : Option (List ℕ → Option (List ℕ))) (name octets : List ℕ) → HasOctets files name octets → ((text : List ℕ) → ShowOf octets text → ⊥) → IfSome files (λ file. IsNotShown (file name))
@@ -38,9 +39,9 @@ returns-clause-put g c = λ _. (
 pub returns-in-Ok-put-clause-spends : goal.returns-in-Ok-put-clause-spends
 returns-in-Ok-put-clause-spends g c =
     let a = c.in-Ok-show_values.ensures.short in
-    spends_less 1 _ 16777216 _ _ c.in-Ok-put.ensures.spends (omega (arith, a, ap length c.as_bytes.ensures.value, ap length c.deref.ensures.value, c.in-Ok.ensures.short))
+    spends_less 1 _ 1 16777216 _ _ (omega arith) (omega (arith, a, ap length c.as_bytes.ensures.value, ap length c.deref.ensures.value, c.in-Ok.ensures.short)) c.in-Ok-put.ensures.spends
 
 pub returns-clause-spends : goal.returns-clause-spends
 returns-clause-spends g c =
     let a = c.in-Ok-show_values.ensures.short in
-    spends_less 1 _ 16777216 _ _ c.in-Err-put.ensures.spends (omega (arith, a, ap length c.as_bytes.ensures.value, ap length c.deref.ensures.value, c.in-Ok.ensures.short))
+    spends_less 1 _ 1 16777216 _ _ (omega arith) (omega (arith, a, ap length c.as_bytes.ensures.value, ap length c.deref.ensures.value, c.in-Ok.ensures.short)) c.in-Err-put.ensures.spends
