@@ -8,12 +8,12 @@ use crate::graph::{Graph, NODE_LIMIT};
 pub(crate) type Layer = [bool; NODE_LIMIT];
 
 /// Whether a node may stand at a place.
-fn may_stand(graph: &Graph, row: &[bool], place: usize, node: usize) -> bool
+fn may_stand(graph: &Graph, usable: &[bool], place: usize, node: usize) -> bool
     requires node { node < graph.now.size }
-    requires row { length row.now ≡ graph.now.size }
-    ensures { IsTrue result ↔ Stands graph.now row.now place node }
+    requires usable { length usable.now ≡ graph.now.size }
+    ensures { IsTrue result ↔ Stands graph.now usable.now place node }
 {
-    if !row[node] {
+    if !usable[node] {
         return false;
     }
     match graph.limit_of(node) {
@@ -23,38 +23,39 @@ fn may_stand(graph: &Graph, row: &[bool], place: usize, node: usize) -> bool
 }
 
 /// The layer of a last place.
-fn last_layer(graph: &Graph, row: &[bool], place: usize) -> Layer
-    requires { length row.now ≡ graph.now.size }
-    ensures { IsLayer graph.now row.now 0 place result }
+fn last_layer(graph: &Graph, usable: &[bool], place: usize) -> Layer
+    requires { length usable.now ≡ graph.now.size }
+    ensures { IsLayer graph.now usable.now 0 place result }
 {
     let mut layer = [false; NODE_LIMIT];
     for node in 0..graph.size() {
-        layer[node] = may_stand(graph, row, place, node) && graph.ends_at(node);
+        layer[node] = may_stand(graph, usable, place, node) && graph.ends_at(node);
     }
     layer
 }
 
 /// The layer of a place from that of the next.
-fn layer_before(graph: &Graph, row: &[bool], place: usize, next: &Layer) -> Layer
-    requires { length row.now ≡ graph.now.size }
-    ensures { IsLayerBefore graph.now row.now place next.now result }
+fn layer_before(graph: &Graph, usable: &[bool], place: usize, next: &Layer) -> Layer
+    requires { length usable.now ≡ graph.now.size }
+    ensures { IsLayerBefore graph.now usable.now place next.now result }
 {
     let mut layer = [false; NODE_LIMIT];
     for node in 0..graph.size() {
-        layer[node] = may_stand(graph, row, place, node) && least_next(graph, node, next).is_some();
+        layer[node] = may_stand(graph, usable, place, node)
+            && least_next(graph, node, next).is_some();
     }
     layer
 }
 
 /// The layer of a place, for so many further nodes. It is worked out from the last place on.
-pub(crate) fn layer(graph: &Graph, row: &[bool], place: usize, further: usize) -> Layer
-    requires row { length row.now ≡ graph.now.size }
+pub(crate) fn layer(graph: &Graph, usable: &[bool], place: usize, further: usize) -> Layer
+    requires usable { length usable.now ≡ graph.now.size }
     requires place { place + further < 2 ^ 64 }
-    ensures { IsLayer graph.now row.now further place result }
+    ensures { IsLayer graph.now usable.now further place result }
 {
-    let mut layer = last_layer(graph, row, place + further);
+    let mut layer = last_layer(graph, usable, place + further);
     for back in 0..further {
-        layer = layer_before(graph, row, place + (further - 1 - back), &layer);
+        layer = layer_before(graph, usable, place + (further - 1 - back), &layer);
     }
     layer
 }

@@ -11,49 +11,49 @@ use std::alloc::{AllocError, Global};
 /// How many nodes a walk has at most.
 pub const WALK_LIMIT: usize = 6;
 
-/// The lowest walk from the start by so many further nodes that a row allows.
+/// The lowest walk from the start by so many further nodes, all usable.
 fn lowest_walk(
     alloc: Global,
     graph: &Graph,
-    row: &[bool],
+    usable: &[bool],
     start: usize,
     further: usize,
 ) -> Result<Vec<usize>, AllocError>
-    requires row { length row.now ≡ graph.now.size }
-    requires reaches { Reaches graph.now row.now further 0 start }
-    ensures { IfOk result (λ walk. IsLeastOf graph.now row.now further start walk.items) }
+    requires usable { length usable.now ≡ graph.now.size }
+    requires reaches { Reaches graph.now usable.now further 0 start }
+    ensures { IfOk result (λ walk. IsLeastOf graph.now usable.now further start walk.items) }
 {
     let mut walk = Vec::new(alloc);
     walk.push(start)?;
     let mut node = start;
     for place in 0..further {
-        let onward = layer(graph, row, place + 1, further - 1 - place);
+        let onward = layer(graph, usable, place + 1, further - 1 - place);
         node = least_next(graph, node, &onward).unwrap();
         walk.push(node)?;
     }
     Ok(walk)
 }
 
-/// The least walk from the start that a row allows.
+/// The least walk from the start through usable nodes alone.
 fn least_by_row(
     alloc: Global,
     graph: &Graph,
-    row: &[bool],
+    usable: &[bool],
     start: usize,
 ) -> Result<Option<Vec<usize>>, AllocError>
     requires start { start < graph.now.size }
-    requires row { length row.now ≡ graph.now.size }
-    ensures { IfOk result (λ found. MatchOption found ((walk : List ℕ) → ¬ IsRowWalk graph.now row.now start walk)
-        (λ walk. IsLeastRowWalk graph.now row.now start walk.items)) }
+    requires usable { length usable.now ≡ graph.now.size }
+    ensures { IfOk result (λ found. MatchOption found ((walk : List ℕ) → ¬ IsRowWalk graph.now usable.now start walk)
+        (λ walk. IsLeastRowWalk graph.now usable.now start walk.items)) }
 {
-    if !row[start] {
+    if !usable[start] {
         return Ok(None);
     }
     let size = graph.size();
     prove!(start < size);
     for further in 0..WALK_LIMIT {
-        if layer(graph, row, 0, further)[start] {
-            return Ok(Some(lowest_walk(alloc, graph, row, start, further)?));
+        if layer(graph, usable, 0, further)[start] {
+            return Ok(Some(lowest_walk(alloc, graph, usable, start, further)?));
         }
     }
     Ok(None)
