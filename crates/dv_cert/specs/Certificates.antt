@@ -8,7 +8,7 @@ use Rattle.dv_outside.specs.Releases.{Entry, Identity}
 use Rattle.dv_lms.specs.declared.height.Height.TheVariants.{H5}
 use Rattle.dv_lms.specs.Identity.{Identity as Key}
 use Rattle.dv_lms.specs.Signed.{public_of, signature_of}
-use Rattle.dv_request.specs.Members.{front_of}
+use Rattle.dv_members.specs.Members.{front_of}
 use Rattle.dv_x509.specs.Own.{OwnCertificate, OwnTbs}
 use Rattle.dv_draft.specs.CertInfo.{cert_info_of}
 use Rattle.dv_draft.specs.OwnRecords.{own_record}

@@ -6,7 +6,7 @@ ghost use Rattle.dv_schema.specs.Schema.{ValueOf};
 ghost use Rattle.dv_outside.specs.Releases.{Identity, Entry};
 ghost use Rattle.dv_lms.specs.Identity.{Identity as Key};
 ghost use Rattle.dv_lms.specs.Signed.{public_of};
-ghost use Rattle.dv_request.specs.Members.{front_of};
+ghost use Rattle.dv_members.specs.Members.{front_of};
 ghost use Rattle.dv_x509.specs.Own.{OwnTbs};
 ghost use Rattle.dv_draft.specs.CertInfo.{cert_info_of};
 ghost use Rattle.dv_draft.specs.OwnRecords.{own_record};

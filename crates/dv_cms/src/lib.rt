@@ -10,5 +10,7 @@
 
 mod content_info;
 pub mod laws;
+mod signer;
 
 pub use content_info::{ContentInfo, SIGNED_DATA_TYPE, content_header_len, write_content_header};
+pub use signer::{Attribute, SERIAL_LIMIT, Signer};

@@ -14,7 +14,7 @@ use Rattle.dv_lms.specs.declared.height.Height.TheVariants.{H5}
 use Rattle.dv_lms.specs.Height.{levels}
 use Rattle.dv_lms.specs.Identity.{Identity as Key}
 use Rattle.dv_lms.specs.Signed.{public_of, signature_of}
-use Rattle.dv_request.specs.Members.{front_of}
+use Rattle.dv_members.specs.Members.{front_of}
 use Rattle.dv_register.specs.State.{rule_identity}
 use Rattle.dv_x509.specs.declared.own.OwnParts.{OwnParts}
 use Rattle.dv_x509.specs.Own.{OwnCertificate, OwnTbs}

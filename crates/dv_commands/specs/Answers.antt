@@ -16,7 +16,7 @@ use Rattle.dv_register.specs.declared.refusals.Create.TheVariants.{NotEmpty, Fau
 use Rattle.dv_schema.specs.declared.refusal.Der.{Der}
 use Rattle.dv_schema.specs.Reading.{read_all}
 use Rattle.dv_schema.specs.Schema.{spelling}
-use Rattle.dv_request.specs.Members.{front_of}
+use Rattle.dv_members.specs.Members.{front_of}
 use Rattle.dv_x509.specs.declared.own.OwnParts.{OwnParts}
 use Rattle.dv_x509.specs.Own.{OwnTbs}
 use Rattle.dv_draft.specs.OwnRecords.{own_record, view_own}

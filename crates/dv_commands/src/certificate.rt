@@ -1,7 +1,7 @@
 //! The certificate that a record stands for, made again.
 ghost use Rattle.std.specs.Prelude.{◌≡◌, ◌+◌, Some, Ok, Err, IfOk};
 ghost use Rattle.dv_schema.specs.Reading.{read_all};
-ghost use Rattle.dv_request.specs.Members.{front_of};
+ghost use Rattle.dv_members.specs.Members.{front_of};
 ghost use Rattle.dv_register.specs.Layout.{IsKnownKind};
 ghost use Rattle.dv_draft.specs.OwnRecords.{own_record};
 ghost use Rattle.dv_draft.specs.Records.{record_in};

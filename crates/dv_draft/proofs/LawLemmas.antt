@@ -18,8 +18,9 @@ use Rattle.dv_time.specs.Text.{last_second}
 use Rattle.dv_time.proofs.TimeLemmas.{moment_fits}
 use Rattle.dv_names.specs.Types.{policy_fields, policy_information}
 use Rattle.dv_status.specs.Types.{status_info}
-use Rattle.dv_request.specs.Members.{front_of}
-use Rattle.dv_response.specs.Types.{cert_info, cert_info_fields, serial_number}
+use Rattle.dv_members.specs.Members.{front_of}
+use Rattle.dv_cms.specs.Types.{serial_number}
+use Rattle.dv_response.specs.Types.{cert_info, cert_info_fields}
 use Rattle.dv_request.proofs.MessageLemmas.{octets_few}
 use Rattle.dv_x509.proofs.OwnLemmas.{length-tlv, small_size}
 use Rattle.dv_draft.specs.CertInfo.{after_serial, cert_info_of, numbered_fields, with_serial}

@@ -20,10 +20,10 @@ use Rattle.dv_names.specs.declared.digest.DigestKind.TheVariants.{Sha256, Sha384
 use Rattle.dv_names.specs.declared.identifiers.TheConstants.{SHA_256, SHA_384, SHA_512}
 use Rattle.dv_names.specs.Digest.{is_none_or_null, kind_named, kind_of, length_of}
 use Rattle.dv_names.specs.Types.{algorithm_identifier, digest_info}
-use Rattle.dv_request.specs.Members.{front_of}
+use Rattle.dv_members.specs.Members.{front_of}
 use Rattle.dv_request.specs.Types.{request_information, target_chains}
 use Rattle.dv_request.proofs.MessageLemmas.{octets_few}
-use Rattle.dv_response.specs.Types.{signer_info}
+use Rattle.dv_cms.specs.Types.{signer_info}
 use Rattle.dv_x509.proofs.Algorithms.{same_is}
 use Rattle.dv_x509.proofs.OwnLemmas.{length-tlv, small_size}
 use Rattle.dv_draft.specs.declared.imprint.Imprint.{Imprint}

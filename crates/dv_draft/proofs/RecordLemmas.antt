@@ -18,7 +18,7 @@ use Rattle.dv_schema.proofs.Decoding.{slice_takes, slice_spelled}
 use Rattle.dv_schema.proofs.Items.{item_takes, item_again, at}
 use Rattle.dv_schema.proofs.Takes.{taken_text}
 use Rattle.dv_schema.proofs.Tools.{bind_ok, ok_is, passed, allowed, chosen}
-use Rattle.dv_request.specs.Members.{front_of}
+use Rattle.dv_members.specs.Members.{front_of}
 use Rattle.dv_x509.specs.declared.fault.X509.{X509}
 use Rattle.dv_x509.specs.declared.fault.X509.TheVariants.{Der as Refused, Version, Algorithm, TooLong}
 use Rattle.dv_x509.specs.Judged.{certificate_front, certificate_in, judged_if}

@@ -7,7 +7,7 @@ use Rattle.dv_schema.specs.Reading.{Spot, ◌>>=◌, read_all}
 use Rattle.dv_schema.specs.Schema.{ValueOf, spelling}
 use Rattle.dv_schema.proofs.Decoding.{slice_takes}
 use Rattle.dv_schema.proofs.Spellings.{fits_more}
-use Rattle.dv_request.specs.Members.{front_of}
+use Rattle.dv_members.specs.Members.{front_of}
 use Rattle.dv_draft.specs.declared.reading.ReadRecord.{ReadRecord}
 use Rattle.dv_draft.specs.declared.reading.ReadRecord.TheVariants.{Der as Refused, Memory}
 use Rattle.dv_draft.specs.Read.{TellsRefusal}

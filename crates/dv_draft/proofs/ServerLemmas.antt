@@ -16,7 +16,7 @@ use Rattle.dv_schema.specs.Types.{oid}
 use Rattle.dv_schema.specs.Answers.{Gives}
 use Rattle.dv_schema.proofs.Decoding.{slice_takes, slice_spelled}
 use Rattle.dv_asn1.specs.Lists.{lists_of}
-use Rattle.dv_request.specs.Members.{front_of}
+use Rattle.dv_members.specs.Members.{front_of}
 use Rattle.dv_x509.proofs.OwnLemmas.{length-tlv}
 use Rattle.dv_draft.specs.Records.{IsCertificate}
 use Rattle.dv_draft.specs.Servers.{IsPolicyName}

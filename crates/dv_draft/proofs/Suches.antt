@@ -10,7 +10,7 @@ use Rattle.dv_schema.proofs.Decoding.{slice_spelled}
 use Rattle.dv_schema.proofs.Defaults.{such_value, such_fault}
 use Rattle.dv_schema.proofs.Spellings.{fits_more}
 use Rattle.dv_schema.proofs.Takes.{takes}
-use Rattle.dv_request.specs.Members.{front_of}
+use Rattle.dv_members.specs.Members.{front_of}
 
 -- the octets of a value that was read are read as that value
 pub read_back : (s : Schema) (p : Spot) (x : ValueOf s × Spot) → is_clear s ≡ true → IsBytes p.rest → p.levels ≤ 32 → read s p ≡ Ok x → read_all s (front_of (spelling s x.0)) ≡ Ok x.0

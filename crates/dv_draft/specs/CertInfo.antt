@@ -5,7 +5,7 @@ use Rattle.dv_schema.specs.Tlv.{integer_octets}
 use Rattle.dv_schema.specs.Types.{list_of}
 use Rattle.dv_time.specs.Types.{generalized_time}
 use Rattle.dv_request.specs.Types.{request_information, target_chains}
-use Rattle.dv_response.specs.Types.{serial_number, signer_info}
+use Rattle.dv_cms.specs.Types.{serial_number, signer_info}
 use Rattle.dv_draft.specs.Types.{draft, imprint, kept_policy, plain_status}
 
 -- the fields of a draft, with the serial number at its place

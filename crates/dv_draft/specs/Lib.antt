@@ -5,6 +5,7 @@ pub mod Parts
 pub mod Read
 pub mod Records
 pub mod Servers
+pub mod Signers
 pub mod Spans
 pub mod Types
 pub mod Views

@@ -6,7 +6,7 @@ use Rattle.dv_schema.specs.declared.refusal.Why.TheVariants.{Value}
 use Rattle.dv_schema.specs.Reading.{Spot, ◌>>=◌, is_tag_of, item_at, read_all, refuse, taken}
 use Rattle.dv_schema.specs.Schema.{FieldsOf, ValueOf, spelling}
 use Rattle.dv_schema.specs.Tlv.{tlv}
-use Rattle.dv_request.specs.Members.{front_of}
+use Rattle.dv_members.specs.Members.{front_of}
 use Rattle.dv_x509.specs.declared.fault.X509.{X509}
 use Rattle.dv_x509.specs.declared.fault.X509.TheVariants.{Der as Refused, Version, Algorithm, TooLong}
 use Rattle.dv_x509.specs.Judged.{certificate_in}

@@ -12,9 +12,9 @@ use Rattle.dv_names.specs.Digest.{kind_of, length_of}
 use Rattle.dv_names.specs.Types.{digest_info, policy_fields}
 use Rattle.dv_status.specs.Fail.{fail_octets}
 use Rattle.dv_status.specs.Types.{status_info}
-use Rattle.dv_request.specs.Members.{front_of}
+use Rattle.dv_members.specs.Members.{front_of}
 use Rattle.dv_request.specs.Types.{request_information, target_chains}
-use Rattle.dv_response.specs.Types.{signer_info}
+use Rattle.dv_cms.specs.Types.{signer_info}
 
 -- ---- the imprint
 

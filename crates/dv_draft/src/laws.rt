@@ -7,7 +7,7 @@ ghost use Rattle.dv_schema.specs.Fits.{Fits};
 ghost use Rattle.dv_schema.specs.Reading.{read_all};
 ghost use Rattle.dv_schema.specs.Tlv.{integer_octets, tlv};
 ghost use Rattle.dv_time.specs.Text.{last_second};
-ghost use Rattle.dv_request.specs.Members.{front_of};
+ghost use Rattle.dv_members.specs.Members.{front_of};
 ghost use Rattle.dv_response.specs.Types.{cert_info};
 ghost use Rattle.dv_draft.specs.CertInfo.{after_serial, before_serial, cert_info_of};
 ghost use Rattle.dv_draft.specs.Completed.{Completes};

@@ -7,7 +7,7 @@ ghost use Rattle.dv_schema.specs.Reading.{read_all};
 ghost use Rattle.dv_schema.specs.Types.{oid};
 ghost use Rattle.dv_schema.specs.Answers.{Gives};
 ghost use Rattle.dv_asn1.specs.Lists.{lists_of};
-ghost use Rattle.dv_request.specs.Members.{front_of};
+ghost use Rattle.dv_members.specs.Members.{front_of};
 ghost use Rattle.dv_draft.specs.Records.{IsCertificate};
 ghost use Rattle.dv_draft.specs.Servers.{IsPolicyName, IsServer};
 

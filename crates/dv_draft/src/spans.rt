@@ -15,9 +15,9 @@ use crate::imprint_span::ImprintSpan;
 use crate::service_status::Status;
 use crate::status_reading::read_optional_status;
 use dv_asn1::{Cursor, Decode, Der, Octets, read_optional_list};
+use dv_cms::Signer;
 use dv_names::PolicyInfo;
 use dv_request::{RequestInfo, TargetChain};
-use dv_response::Signer;
 use dv_time::{Moment, read_generalized};
 use std::alloc::{AllocError, Global};
 

@@ -10,7 +10,7 @@ use Rattle.dv_schema.specs.Reading.{Spot, ◌>>=◌, all_at, read}
 use Rattle.dv_schema.proofs.Moves.{read_moves, skip_err}
 use Rattle.dv_schema.proofs.Orders.{all_one}
 use Rattle.dv_names.specs.Types.{policy_information}
-use Rattle.dv_request.specs.Members.{front_of, or_none, values_in}
+use Rattle.dv_members.specs.Members.{front_of, or_none, values_in}
 use Rattle.dv_path.specs.Demands.{policies_in}
 
 -- these values, and then those at the spot

@@ -6,7 +6,7 @@ use Rattle.dv_schema.specs.Schema.{FieldsOf}
 use Rattle.dv_names.specs.declared.identifiers.TheConstants.{ANY_POLICY}
 use Rattle.dv_names.specs.Types.{policy_information}
 use Rattle.dv_request.specs.declared.path_input.PathInput.{PathInput}
-use Rattle.dv_request.specs.Members.{values_in}
+use Rattle.dv_members.specs.Members.{values_in}
 use Rattle.dv_x509.specs.Types.{certificate_fields}
 use Rattle.dv_x509.specs.Uses.{asserts}
 use Rattle.dv_path.specs.Members.{member}

@@ -23,10 +23,10 @@ use Rattle.dv_schema.proofs.Spellings.{fits_more}
 use Rattle.dv_schema.proofs.Distinct.{first_is}
 use Rattle.dv_schema.proofs.Moves.{moves}
 use Rattle.dv_schema.proofs.Takes.{takes, taken_text}
-use Rattle.dv_request.specs.Members.{front_of, values_in}
+use Rattle.dv_members.specs.Members.{front_of, values_in}
 use Rattle.dv_request.specs.Targets.{targets_in}
 use Rattle.dv_request.specs.Types.{dvcs_request, request_information, target_chain, target_chains}
-use Rattle.dv_request.proofs.MemberLemmas.{list_values, values_spell}
+use Rattle.dv_members.proofs.MemberLemmas.{list_values, values_spell}
 
 -- a list of targets that was read, and its octets
 pub record IsListed (p q : Spot) (contents : List ℕ) : Type 0 where

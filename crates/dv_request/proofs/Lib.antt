@@ -2,7 +2,6 @@ pub mod ChainLemmas
 pub mod DataLemmas
 pub mod FitLemmas
 pub mod MadeLemmas
-pub mod MemberLemmas
 pub mod MessageLemmas
 pub mod StrictLemmas
 pub mod TargetLemmas

@@ -18,9 +18,9 @@ use Rattle.dv_request.specs.declared.target.TargetChain.{TargetChain}
 use Rattle.dv_request.specs.Links.{links_in}
 use Rattle.dv_request.specs.PartViews.{view_path, view_token}
 use Rattle.dv_request.specs.TargetView.{links_of, view_target}
-use Rattle.dv_request.specs.Members.{front_of, values_in}
+use Rattle.dv_members.specs.Members.{front_of, values_in}
 use Rattle.dv_request.specs.Types.{path_input, target_chain, token}
-use Rattle.dv_request.proofs.MemberLemmas.{list_values}
+use Rattle.dv_members.proofs.MemberLemmas.{list_values}
 
 -- the chain of a target that has a spelling has one
 links_spelled : (target : ValueOf token) (octets : List ℕ) (input : Option (ValueOf (path_input 160))) → ∥ HasSpelling target_chain (target, (Some octets, (input, tt))) ∥₁ → ∥ HasSpelling (list_of 48 true token) octets ∥₁

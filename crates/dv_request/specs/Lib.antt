@@ -5,7 +5,6 @@ pub mod Information
 pub mod Links
 pub mod Made
 pub mod Materials
-pub mod Members
 pub mod PartViews
 pub mod Request
 pub mod RequestView

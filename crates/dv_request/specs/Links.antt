@@ -1,7 +1,7 @@
 -- The links of a chain.
 use Rattle.std.specs.Prelude.{ℕ, List, [], Option, Some, None}
 use Rattle.dv_schema.specs.Schema.{ValueOf}
-use Rattle.dv_request.specs.Members.{values_in}
+use Rattle.dv_members.specs.Members.{values_in}
 use Rattle.dv_request.specs.Types.{token}
 
 -- those of the contents octets of a chain, and none where there is no chain

@@ -2,7 +2,7 @@
 use Rattle.std.specs.Prelude.{ℕ, List}
 use Rattle.dv_schema.specs.Schema.{ValueOf}
 use Rattle.dv_schema.specs.Reading.{first_contents}
-use Rattle.dv_request.specs.Members.{values_in}
+use Rattle.dv_members.specs.Members.{values_in}
 use Rattle.dv_request.specs.Types.{target_chain}
 
 -- those of a whole value that lists them

@@ -9,9 +9,9 @@ ghost use Rattle.dv_request.specs.DataView.{count_of, targets_of, view_data};
 ghost use Rattle.dv_request.specs.Targets.{targets_in};
 ghost use Rattle.dv_request.specs.Types.{data_of_request, target_chains};
 
-use crate::members::read_counted;
 use crate::target::TargetChain;
 use dv_asn1::{Cursor, Decode, Der, Writer, header_len};
+use dv_members::read_counted;
 use dv_names::DigestInfo;
 
 /// The tag of a list of targets.
@@ -80,7 +80,7 @@ fn read_certs<'a>(c: &mut Cursor<'a>) -> Result<(&'a [u8], u32), Der>
     ensures counted { IfOk result (λ x. x.1 ≡ length (targets_in x.0.now)) }
 {
     let mut next = c.fork();
-    let (_, targets) = read_counted::<TargetChain>(&mut next, CERTS)?;
+    let (_, targets) = read_counted::<TargetChain>(&mut next, CERTS, true)?;
     let raw = c.up_to(&next);
     *c = next;
     Ok((raw, targets as u32))

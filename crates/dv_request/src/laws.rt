@@ -1,9 +1,8 @@
 //! Laws of requests, each as a function that does nothing and ensures it.
 
-ghost use Rattle.std.specs.Prelude.{◌≡◌, ◌≢◌, ◌≤◌, ◌<◌, ◌^◌, ℕ, Bool, List, [], Option, All, IfSome, IsTrue, Ok, length, true};
-ghost use Rattle.dv_schema.specs.Schema.{Schema, ValueOf, contents, sequence_of, spelling};
-ghost use Rattle.dv_schema.specs.Fits.{FieldsFit, Fits};
-ghost use Rattle.dv_schema.specs.Clear.{is_clear};
+ghost use Rattle.std.specs.Prelude.{◌≡◌, ◌≢◌, ◌≤◌, ◌<◌, ◌^◌, ℕ, List, [], Option, All, IfSome, Ok, length, true};
+ghost use Rattle.dv_schema.specs.Schema.{ValueOf, spelling};
+ghost use Rattle.dv_schema.specs.Fits.{Fits};
 ghost use Rattle.dv_schema.specs.Reading.{read_all};
 ghost use Rattle.dv_schema.specs.Decodes.{ReadsBack};
 ghost use Rattle.dv_time.specs.Text.{last_second};
@@ -13,7 +12,6 @@ ghost use Rattle.dv_request.specs.declared.service.Service.{Service};
 ghost use Rattle.dv_request.specs.InfoView.{view_info};
 ghost use Rattle.dv_request.specs.Made.{certificates_data, digest_data, is_good_nonce, message_data, request_from};
 ghost use Rattle.dv_request.specs.Materials.{IsCertificate};
-ghost use Rattle.dv_request.specs.Members.{values_in};
 ghost use Rattle.dv_request.specs.PartViews.{view_path};
 ghost use Rattle.dv_request.specs.Request.{request_data_type};
 ghost use Rattle.dv_request.specs.RequestView.{view_request};
@@ -34,13 +32,6 @@ pub fn parts_are_read_again()
     ensures information { ReadsBack request_information view_info }
     ensures target { ReadsBack target_chain view_target }
     ensures path { ReadsBack (path_input 160) view_path }
-{}
-
-/// The values that kept octets hold are those whose spellings, one after another, they are.
-pub fn kept_values_are_those_spelled()
-    ensures { (s : Schema) (some : Bool) (vs : List (ValueOf s)) → IsTrue (is_clear s)
-        → FieldsFit (sequence_of some s) 32 vs
-        → values_in s (contents (sequence_of some s) vs) ≡ vs }
 {}
 
 /// The requests that are made have spellings, at the depth at which a message holds them, so they decode.

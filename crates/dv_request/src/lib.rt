@@ -10,10 +10,10 @@
 //! given, and says exactly when it makes none.
 //!
 //! The definitions, to be read in this order: `Types` (the table of types), `PartViews`, `TargetView`, `DataView`,
-//! `Information`, `InfoView` and `RequestView` (the types of the code as values), `Members`, `Links` and `Targets` (what
+//! `Information`, `InfoView` and `RequestView` (the types of the code as values), `Links` and `Targets` (what
 //! kept octets hold), `Made` and `Materials` (the requests that are made).
 //!
-//! What it stands on: `dv_asn1`, `dv_time`, `dv_names`, `dv_status` and `dv_cms`, over the definitions of `dv_schema`.
+//! What it stands on: `dv_asn1`, `dv_members`, `dv_time`, `dv_names`, `dv_status` and `dv_cms`, over the definitions of `dv_schema`.
 #![tactic(auto)]
 
 mod certificates;
@@ -23,7 +23,6 @@ mod info;
 pub mod laws;
 mod make;
 mod material;
-mod members;
 mod path_input;
 mod request;
 mod request_time;

@@ -10,10 +10,10 @@ ghost use Rattle.dv_request.specs.Links.{links_in};
 ghost use Rattle.dv_request.specs.PartViews.{view_path, view_token};
 ghost use Rattle.dv_request.specs.Types.{path_input, target_chain, token};
 
-use crate::members::read_counted;
 use crate::path_input::PathInput;
 use crate::token::Token;
 use dv_asn1::{Cursor, Decode, Der, Member, member_at};
+use dv_members::read_counted;
 
 /// A TargetEtcChain (RFC 3029 7.5): a target, the chain that is handed in with it, and the input of its path.
 #[derive(Clone, Copy, Debug)]
@@ -101,7 +101,7 @@ fn read_links<'a>(c: &mut Cursor<'a>) -> Result<(Option<&'a [u8]>, u32), Der>
     if !c.next_is(0x30) {
         return Ok((None, 0));
     }
-    let (links, count) = read_counted::<Token>(c, 0x30)?;
+    let (links, count) = read_counted::<Token>(c, 0x30, true)?;
     Ok((Some(links), count.min(u32::MAX as u64) as u32))
 }
 

@@ -11,8 +11,8 @@ ghost use Rattle.dv_status.specs.Views.{view_status};
 ghost use Rattle.dv_response.specs.Parts.{certified};
 ghost use Rattle.dv_response.specs.Types.{cert_info, version as version_type};
 
-use crate::signer::{SERIAL_LIMIT, Signer};
 use dv_asn1::{Cursor, Decode, Der, Why, read_optional_list};
+use dv_cms::{SERIAL_LIMIT, Signer};
 use dv_names::{DigestInfo, NoneKnown, PolicyInfo, read_optional_extensions};
 use dv_request::{RequestInfo, TargetChain};
 use dv_status::StatusInfo;

@@ -5,13 +5,11 @@
 //! What it promises: `decode` answers the value that the octets spell, or the first refusal with its place. No call takes
 //! memory.
 //!
-//! What it stands on: `dv_asn1`, `dv_time`, `dv_names`, `dv_status` and `dv_request`, over the definitions of `dv_schema`.
+//! What it stands on: `dv_asn1`, `dv_time`, `dv_names`, `dv_status`, `dv_cms` and `dv_request`, over the definitions of `dv_schema`.
 #![tactic(auto)]
 
 mod cert_info;
 mod response;
-mod signer;
 
 pub use cert_info::CertInfo;
 pub use response::{Notice, Response};
-pub use signer::{Attribute, SERIAL_LIMIT, Signer};

@@ -15,7 +15,7 @@ use Rattle.dv_schema.proofs.Spellings.{one_spelling}
 use Rattle.dv_schema.proofs.Takes.{same_self}
 use Rattle.dv_names.specs.declared.algorithm.Oid.{Oid}
 use Rattle.dv_names.specs.Views.{view_oid}
-use Rattle.dv_request.specs.Members.{front_of}
+use Rattle.dv_members.specs.Members.{front_of}
 use Rattle.dv_x509.proofs.Algorithms.{same_is}
 use Rattle.dv_draft.specs.Servers.{IsPolicyName}
 

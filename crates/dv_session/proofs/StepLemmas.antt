@@ -20,9 +20,9 @@ use Rattle.dv_time.specs.Text.{civil_in, civil_of, last_second, second_of, text_
 use Rattle.dv_time.specs.Views.{view_moment}
 use Rattle.dv_time.proofs.TextLemmas.{read_back, second_again}
 use Rattle.dv_names.specs.Types.{extension, extension_fields, extensions, extensions_under, general_name, general_names}
-use Rattle.dv_request.specs.Members.{front_of, values_in}
+use Rattle.dv_members.specs.Members.{front_of, values_in}
 use Rattle.dv_request.specs.Types.{request_information}
-use Rattle.dv_request.proofs.MemberLemmas.{values_of_octets}
+use Rattle.dv_members.proofs.MemberLemmas.{values_of_octets}
 use Rattle.dv_session.specs.Steps.{is_after}
 
 -- the members of a kept list that fits are read

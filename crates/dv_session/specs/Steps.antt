@@ -8,7 +8,7 @@ use Rattle.dv_schema.specs.Schema.{FieldsOf, ValueOf}
 use Rattle.dv_schema.specs.Tlv.{tlv}
 use Rattle.dv_time.specs.Text.{civil_in, second_of}
 use Rattle.dv_names.specs.Types.{extension, general_name, policy_fields}
-use Rattle.dv_request.specs.Members.{values_in}
+use Rattle.dv_members.specs.Members.{values_in}
 use Rattle.dv_request.specs.Targets.{targets_in}
 use Rattle.dv_request.specs.Types.{data_of_request, dvcs_request, request_time}
 use Rattle.dv_svc_pkc.specs.Certificates.{pkc_failure}

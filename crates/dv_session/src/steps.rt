@@ -11,7 +11,7 @@ ghost use Rattle.dv_names.specs.Types.{extension, general_name};
 ghost use Rattle.dv_names.specs.Views.{view_extension, view_general, view_policy};
 ghost use Rattle.dv_request.specs.DataView.{view_data};
 ghost use Rattle.dv_request.specs.Information.{number_of, view_request_time};
-ghost use Rattle.dv_request.specs.Members.{front_of};
+ghost use Rattle.dv_members.specs.Members.{front_of};
 ghost use Rattle.dv_request.specs.RequestView.{view_request};
 ghost use Rattle.dv_draft.specs.Servers.{IsPolicyName};
 ghost use Rattle.dv_session.specs.Messages.{takes as takes_data};

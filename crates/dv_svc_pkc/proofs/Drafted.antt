@@ -16,12 +16,12 @@ use Rattle.dv_time.specs.Text.{last_second}
 use Rattle.dv_time.specs.Views.{view_moment}
 use Rattle.dv_names.specs.declared.digest.DigestKind.TheVariants.{Sha256}
 use Rattle.dv_status.specs.Types.{status_info}
-use Rattle.dv_request.specs.Members.{front_of}
+use Rattle.dv_members.specs.Members.{front_of}
 use Rattle.dv_request.specs.TargetView.{view_target}
 use Rattle.dv_request.specs.Targets.{targets_in}
 use Rattle.dv_request.specs.Types.{dvcs_request, request_information, target_chain, target_chains}
 use Rattle.dv_request.proofs.MessageLemmas.{octets_few}
-use Rattle.dv_response.specs.Types.{signer_info}
+use Rattle.dv_cms.specs.Types.{signer_info}
 use Rattle.dv_x509.proofs.OwnLemmas.{length-tlv}
 use Rattle.dv_path.specs.Anchors.{Anchored}
 use Rattle.dv_draft.specs.declared.imprint.Imprint.{Imprint}
@@ -37,7 +37,7 @@ use Rattle.dv_svc_pkc.specs.Certificates.{certificates_of}
 use Rattle.dv_svc_pkc.specs.Drafts.{IsPkc, time_of}
 use Rattle.dv_svc_pkc.specs.Entries.{above, entries_of, entry_of, entry_with, granted_if}
 use Rattle.dv_svc_pkc.specs.Outcomes.{IsOutcome, IsWhen, search_of}
-use Rattle.dv_svc_pkc.specs.Signers.{AreSigners}
+use Rattle.dv_draft.specs.Signers.{AreSigners}
 use Rattle.dv_svc_pkc.specs.Slices.{octets_if}
 use Rattle.dv_svc_pkc.specs.Validated.{AreFindings, IsFinding, are_granted, draft_from, entries_in, entry_in}
 use Rattle.dv_svc_pkc.proofs.Flattened.{flat-map}

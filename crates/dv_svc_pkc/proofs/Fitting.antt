@@ -12,7 +12,7 @@ use Rattle.dv_schema.proofs.Spellings.{fields_more, fits_more}
 use Rattle.dv_status.specs.Types.{status_info}
 use Rattle.dv_request.specs.Links.{links_in}
 use Rattle.dv_request.specs.Types.{path_input, target_chain, target_fields, token, whole_certificate}
-use Rattle.dv_request.proofs.MemberLemmas.{values_of_octets}
+use Rattle.dv_members.proofs.MemberLemmas.{values_of_octets}
 use Rattle.dv_request.proofs.MessageLemmas.{octets_few}
 use Rattle.dv_x509.specs.Judged.{certificate_in}
 use Rattle.dv_path.specs.Anchors.{Anchored}

@@ -12,7 +12,7 @@ use Rattle.dv_schema.specs.Schema.{ValueOf}
 use Rattle.dv_schema.specs.Decodes.{HasSpelling}
 use Rattle.dv_schema.specs.Reading.{Spot, all_at, read}
 use Rattle.dv_schema.proofs.Counts.{member_fault, member_none, member_turn}
-use Rattle.dv_request.specs.Members.{front_of}
+use Rattle.dv_members.specs.Members.{front_of}
 use Rattle.dv_request.specs.Links.{links_in}
 use Rattle.dv_request.specs.PartViews.{view_token}
 use Rattle.dv_request.specs.declared.token.Token.{Token}

@@ -20,12 +20,12 @@ use Rattle.dv_request.specs.declared.data.Data.TheVariants.{Message, Imprint, Ce
 use Rattle.dv_request.specs.declared.request.Request.{Request}
 use Rattle.dv_request.specs.DataView.{targets_of, view_data}
 use Rattle.dv_request.specs.InfoView.{view_info}
-use Rattle.dv_request.specs.Members.{values_in}
+use Rattle.dv_members.specs.Members.{values_in}
 use Rattle.dv_request.specs.RequestView.{view_request}
 use Rattle.dv_request.specs.Targets.{targets_in}
 use Rattle.dv_request.specs.Types.{data_of_request, dvcs_request, request_fields, request_information, target_chain, target_chains}
 use Rattle.dv_request.proofs.DataLemmas.{certs_spelled, targets_short}
-use Rattle.dv_request.proofs.MemberLemmas.{values_of_octets}
+use Rattle.dv_members.proofs.MemberLemmas.{values_of_octets}
 
 -- there is at least one target, and each fits where it stands
 abbrev pub AreFit : List (ValueOf target_chain) → Type 0

@@ -4,6 +4,5 @@ pub mod Certificates
 pub mod Drafts
 pub mod Entries
 pub mod Outcomes
-pub mod Signers
 pub mod Slices
 pub mod Validated

@@ -14,7 +14,7 @@ ghost use Rattle.dv_svc_pkc.specs.Certificates.{certs_in, pkc_failure};
 ghost use Rattle.dv_svc_pkc.specs.Drafts.{IsPkc};
 ghost use Rattle.dv_svc_pkc.specs.Entries.{granted_if};
 ghost use Rattle.dv_svc_pkc.specs.Outcomes.{checks_of};
-ghost use Rattle.dv_svc_pkc.specs.Signers.{AreSigners};
+ghost use Rattle.dv_draft.specs.Signers.{AreSigners};
 ghost use Rattle.dv_svc_pkc.specs.Validated.{are_granted, draft_from};
 
 use crate::entries::certs_of;

@@ -11,7 +11,7 @@ ghost use Rattle.dv_draft.specs.Views.{view_draft};
 ghost use Rattle.dv_request.specs.DataView.{view_data};
 ghost use Rattle.dv_request.specs.RequestView.{view_request};
 ghost use Rattle.dv_svc_possession.specs.Possession.{ccpd_of, claim_failure, claim_in, cpd_of, draft_with, message_in};
-ghost use Rattle.dv_svc_possession.specs.Signers.{AreSigners};
+ghost use Rattle.dv_draft.specs.Signers.{AreSigners};
 ghost use Rattle.dv_svc_possession.specs.Answered.{IsAnswer};
 
 use dv_asn1::Octets;

@@ -4,7 +4,7 @@ use Rattle.dv_schema.specs.Reading.{Spot, all_at, first_contents, read}
 use Rattle.dv_schema.specs.Types.{primitive}
 use Rattle.dv_schema.specs.Rules.{any_octets}
 use Rattle.dv_schema.proofs.Tools.{ok_is}
-use Rattle.dv_request.specs.Members.{front_of}
+use Rattle.dv_members.specs.Members.{front_of}
 use Rattle.dv_request.specs.Targets.{targets_in}
 use Rattle.dv_request.specs.TargetView.{view_target}
 use Rattle.dv_request.specs.Types.{target_chain}

@@ -3,7 +3,7 @@ use Rattle.std.specs.List.{list_any}
 use Rattle.dv_schema.specs.Schema.{ValueOf}
 use Rattle.dv_schema.specs.Reading.{all_at, read}
 use Rattle.dv_names.specs.Types.{extension}
-use Rattle.dv_request.specs.Members.{front_of}
+use Rattle.dv_members.specs.Members.{front_of}
 use Rattle.dv_session.specs.Steps.{is_critical}
 use Rattle.dv_session.proofs.steps.any_critical.Given as goal
 

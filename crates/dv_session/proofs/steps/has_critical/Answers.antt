@@ -2,7 +2,7 @@ use Rattle.std.proofs.Common.{◌∙◌, List, ℕ, ap, sym}
 use Rattle.std.specs.Option.{option_copied}
 use Rattle.dv_names.specs.Types.{extension}
 use Rattle.dv_request.specs.InfoView.{view_info}
-use Rattle.dv_request.specs.Members.{values_in}
+use Rattle.dv_members.specs.Members.{values_in}
 use Rattle.dv_session.specs.Steps.{has_critical}
 use Rattle.dv_session.proofs.StepLemmas.{extensions_read}
 use Rattle.dv_session.proofs.steps.has_critical.Goals as goal

@@ -3,7 +3,7 @@ use Rattle.std.specs.Prelude.{not}
 use Rattle.std.specs.Option.{option_copied}
 use Rattle.dv_names.specs.Types.{general_name}
 use Rattle.dv_request.specs.InfoView.{view_info}
-use Rattle.dv_request.specs.Members.{values_in}
+use Rattle.dv_members.specs.Members.{values_in}
 use Rattle.dv_session.specs.Steps.{is_for_others}
 use Rattle.dv_session.proofs.StepLemmas.{servers_read}
 use Rattle.dv_session.proofs.steps.is_for_others.Goals as goal

@@ -8,7 +8,7 @@ use Rattle.dv_schema.specs.Schema.{spelling}
 use Rattle.dv_draft.specs.Parts.{draft_of}
 use Rattle.dv_draft.specs.Servers.{IsPolicyName}
 use Rattle.dv_draft.specs.Types.{draft}
-use Rattle.dv_svc_pkc.specs.Signers.{AreSigners}
+use Rattle.dv_draft.specs.Signers.{AreSigners}
 use Rattle.dv_svc_pkc.specs.Validated.{are_granted}
 use Rattle.dv_svc_pkc.proofs.Drafted.{made_fits, made_short}
 use Rattle.dv_svc_pkc.proofs.Requested.{information_fits, information_short}

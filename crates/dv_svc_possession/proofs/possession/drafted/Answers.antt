@@ -5,7 +5,7 @@ use Rattle.dv_time.specs.Text.{last_second}
 use Rattle.dv_request.specs.InfoView.{view_info}
 use Rattle.dv_draft.specs.Servers.{IsPolicyName}
 use Rattle.dv_draft.proofs.MadeLemmas.{plain_fits, plain_short}
-use Rattle.dv_svc_possession.specs.Signers.{AreSigners}
+use Rattle.dv_draft.specs.Signers.{AreSigners}
 use Rattle.dv_svc_possession.proofs.RequestLemmas.{information_fits, information_short}
 use Rattle.dv_svc_possession.proofs.possession.drafted.Goals as goal
 

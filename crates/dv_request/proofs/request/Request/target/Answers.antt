@@ -9,7 +9,7 @@ use Rattle.dv_request.specs.Targets.{targets_in}
 use Rattle.dv_request.specs.TargetView.{view_target}
 use Rattle.dv_request.specs.Types.{dvcs_request}
 use Rattle.dv_request.proofs.DataLemmas.{certs_spelled}
-use Rattle.dv_request.proofs.MemberLemmas.{IsMember, member_is}
+use Rattle.dv_members.proofs.MemberLemmas.{IsMember, member_is}
 use Rattle.dv_request.proofs.request.Request.target.Goals as goal
 
 pub target_at-requires-clause-spelled : goal.target_at-requires-clause-spelled

@@ -6,10 +6,10 @@ use Rattle.dv_schema.specs.Schema.{ValueOf}
 use Rattle.dv_schema.specs.Reading.{Spot, all_at, read}
 use Rattle.dv_schema.specs.Decodes.{HasSpelling}
 use Rattle.dv_request.specs.Links.{links_in}
-use Rattle.dv_request.specs.Members.{values_in}
+use Rattle.dv_members.specs.Members.{values_in}
 use Rattle.dv_request.specs.PartViews.{view_path, view_token}
 use Rattle.dv_request.specs.Types.{target_chain, token}
-use Rattle.dv_request.proofs.MemberLemmas.{IsMember, member_is}
+use Rattle.dv_members.proofs.MemberLemmas.{IsMember, member_is}
 use Rattle.dv_request.proofs.TargetLemmas.{links_read}
 use Rattle.dv_request.proofs.target.TargetChain.link.Goals as goal
 

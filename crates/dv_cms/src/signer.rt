@@ -2,7 +2,7 @@
 
 ghost use Rattle.dv_schema.specs.Reading.{read};
 ghost use Rattle.dv_schema.specs.Answers.{Passes};
-ghost use Rattle.dv_response.specs.Types.{issuer_and_serial, signer_identifier, signer_version};
+ghost use Rattle.dv_cms.specs.Types.{issuer_and_serial, signer_identifier, signer_version};
 
 use dv_asn1::{AnyValue, Cursor, Decode, Der, Member, Why, read_optional_set, read_set};
 use dv_names::{AlgId, Name, Oid};
@@ -17,7 +17,7 @@ const KEY_IDENTIFIER: u8 = 0x80;
 pub struct Attribute;
 
 impl Member for Attribute {
-    ghost use Rattle.dv_response.specs.Types.{attribute};
+    ghost use Rattle.dv_cms.specs.Types.{attribute};
 
     ghost schema = { attribute };
 
@@ -37,7 +37,7 @@ impl Member for Attribute {
 pub struct Signer;
 
 impl Member for Signer {
-    ghost use Rattle.dv_response.specs.Types.{signer_info};
+    ghost use Rattle.dv_cms.specs.Types.{signer_info};
 
     ghost schema = { signer_info };
 

@@ -25,7 +25,7 @@ use Rattle.dv_schema.proofs.Items.{item_takes}
 use Rattle.dv_schema.proofs.Lists.{members_few, members_read}
 use Rattle.dv_schema.proofs.Moves.{read_moves}
 use Rattle.dv_schema.proofs.Nodes.{constructed_fault, constructed_value}
-use Rattle.dv_request.specs.Members.{front_of, or_none, values_in}
+use Rattle.dv_members.specs.Members.{front_of, or_none, values_in}
 
 -- values that fit are those of the list's octets
 pub values_again : (s : Schema) (some : Bool) (own : ℕ) (vs : List (ValueOf s)) → is_clear s ≡ true → FieldsFit (sequence_of some s) 32 vs
@@ -91,30 +91,30 @@ counted_err (Ok vs) d e = absurd cc
 counted_err (Err b) d e = cc
 
 -- a list that was entered and whose members were counted
-pub record IsCounted (s : Schema) (tag n : ℕ) (p inside after : Spot) : Type 0 where
-  pub list : read (list_of tag true s) p ≡ Ok (inside.rest, after)
+pub record IsCounted (s : Schema) (some : Bool) (tag n : ℕ) (p inside after : Spot) : Type 0 where
+  pub list : read (list_of tag some s) p ≡ Ok (inside.rest, after)
   pub count : n ≡ length (values_in s inside.rest)
   pub few : n ≤ length inside.rest
 
-pub counted_list : (s : Schema) (tag n : ℕ) (p inside after : Spot) → is_clear s ≡ true → tag / 32 % 2 ≡ 1 → IsBytes p.rest → p.levels ≤ 32
-    → item_at (is_tag_of tag) p ≡ Ok (record { tag = tag; inside = inside; after = after }) → counted 0 (read_fields (sequence_of true s) p.place inside) ≡ Ok n → IsCounted s tag n p inside after
-counted_list s tag n p inside after clear e bytes levels item c =
+pub counted_list : (s : Schema) (some : Bool) (tag n : ℕ) (p inside after : Spot) → is_clear s ≡ true → tag / 32 % 2 ≡ 1 → IsBytes p.rest → p.levels ≤ 32
+    → item_at (is_tag_of tag) p ≡ Ok (record { tag = tag; inside = inside; after = after }) → counted 0 (read_fields (sequence_of some s) p.place inside) ≡ Ok n → IsCounted s some tag n p inside after
+counted_list s some tag n p inside after clear e bytes levels item c =
     let i : Item = record { tag = tag; inside = inside; after = after } in
-    let v = counted_ok n (read_fields (sequence_of true s) p.place inside) c in
+    let v = counted_ok n (read_fields (sequence_of some s) p.place inside) c in
     let t = item_takes (is_tag_of tag) p i bytes item in
-    let found = values_found s true p.place inside v.0 clear t.inside_fits (omega (arith, t.levels, levels)) v.1 in
-    let few = members_few (read s) (read_moves s) (length inside.rest) inside v.0 (members_read s true p.place inside v.0 v.1) in
+    let found = values_found s some p.place inside v.0 clear t.inside_fits (omega (arith, t.levels, levels)) v.1 in
+    let few = members_few (read s) (read_moves s) (length inside.rest) inside v.0 (members_read s some p.place inside v.0 v.1) in
     record {
-      list = constructed_value tag (sequence_of true s) p inside after e item (ap skipped v.1);
+      list = constructed_value tag (sequence_of some s) p inside after e item (ap skipped v.1);
       count = v.2 ∙ ap length (sym found);
       few = omega (arith, few, v.2);
     }
 
 -- and one with a member that was refused
-pub counted_fault : (s : Schema) (tag : ℕ) (p inside after : Spot) (d : Der) → tag / 32 % 2 ≡ 1
-    → item_at (is_tag_of tag) p ≡ Ok (record { tag = tag; inside = inside; after = after }) → counted 0 (read_fields (sequence_of true s) p.place inside) ≡ Err d → read (list_of tag true s) p ≡ Err d
-counted_fault s tag p inside after d e item c =
-    constructed_fault tag (sequence_of true s) p inside after d e item (ap skipped (counted_err (read_fields (sequence_of true s) p.place inside) d c))
+pub counted_fault : (s : Schema) (some : Bool) (tag : ℕ) (p inside after : Spot) (d : Der) → tag / 32 % 2 ≡ 1
+    → item_at (is_tag_of tag) p ≡ Ok (record { tag = tag; inside = inside; after = after }) → counted 0 (read_fields (sequence_of some s) p.place inside) ≡ Err d → read (list_of tag some s) p ≡ Err d
+counted_fault s some tag p inside after d e item c =
+    constructed_fault tag (sequence_of some s) p inside after d e item (ap skipped (counted_err (read_fields (sequence_of some s) p.place inside) d c))
 
 -- the member at an index, as a call that finds it says
 pub record IsMember {X A : Type 0} (view : X → A) (r : Option X) (vs : List A) (i : ℕ) : Type 0 where
