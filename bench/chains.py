@@ -68,20 +68,23 @@ def mesh():
     return [certificate(every, every, serial, authority()) for serial in range(1, 17)]
 
 
-def pem(octets):
+def pem(octets, label="CERTIFICATE"):
     lines = base64.encodebytes(octets).decode()
     text = lines.replace("\n", "")
     rows = [text[at : at + 64] for at in range(0, len(text), 64)]
-    return "\n".join(["-----BEGIN CERTIFICATE-----", *rows, "-----END CERTIFICATE-----", ""])
+    return "\n".join([f"-----BEGIN {label}-----", *rows, f"-----END {label}-----", ""])
 
 
-def main():
-    root, middle, subscriber = Key(b"Example root"), Key(b"Example authority"), Key(b"Example subscriber")
-    chain = {
+def chain_of(root, middle, subscriber):
+    return {
         "root": certificate(root, root, 1, authority()),
         "authority": certificate(root, middle, 2, authority(integer(0))),
         "subscriber": certificate(middle, subscriber, 1, [extension("2.5.29.15", True, DIGITAL_SIGNATURE)]),
     }
+
+
+def main():
+    chain = chain_of(Key(b"Example root"), Key(b"Example authority"), Key(b"Example subscriber"))
     for folder in map(pathlib.Path, sys.argv[1:]):
         for name, octets in chain.items():
             (folder / f"{name}.der").write_bytes(octets)
