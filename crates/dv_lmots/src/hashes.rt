@@ -53,13 +53,14 @@ pub(crate) fn key_from(id: &[u8; 16], q: u32, ends: &[[u8; 32]; CHAINS]) -> [u8;
     hasher.finalize()
 }
 
-// The hash of the message under the randomizer `c` (RFC 8554 4.5).
-fn message_hash(id: &[u8; 16], q: u32, c: &[u8; 32], message: &[u8]) -> [u8; 32]
-    ensures { result ≡ message_hash id.now q c.now message.now }
+// The hash of the message under the randomizer `c` (RFC 8554 4.5). The message is in two parts, one behind the other.
+fn message_hash(id: &[u8; 16], q: u32, c: &[u8; 32], front: &[u8], rest: &[u8]) -> [u8; 32]
+    ensures { result ≡ message_hash id.now q c.now (front.now ++ rest.now) }
 {
     let mut hasher = leaf_hasher(id, q, &D_MESG);
     hasher.update(c);
-    hasher.update(message);
+    hasher.update(front);
+    hasher.update(rest);
     hasher.finalize()
 }
 
@@ -74,11 +75,12 @@ fn checksum(hash: &[u8; 32]) -> u16
     sum
 }
 
-/// The digits of the message under the randomizer `c`: the octets of its hash and of the checksum.
-pub(crate) fn digits(id: &[u8; 16], q: u32, c: &[u8; 32], message: &[u8]) -> [u8; CHAINS]
-    ensures { result ≡ digits id.now q c.now message.now }
+/// The digits of the message under the randomizer `c`: the octets of its hash and of the checksum. The message is in two
+/// parts, one behind the other.
+pub(crate) fn digits(id: &[u8; 16], q: u32, c: &[u8; 32], front: &[u8], rest: &[u8]) -> [u8; CHAINS]
+    ensures { result ≡ digits id.now q c.now (front.now ++ rest.now) }
 {
-    let hash = message_hash(id, q, c, message);
+    let hash = message_hash(id, q, c, front, rest);
     let mut digits = [0; CHAINS];
     digits[..32].copy_from_slice(&hash);
     BigEndian::write_u16(&mut digits[32..], checksum(&hash));

@@ -1,6 +1,6 @@
 //! The calls with the chains walked four at a time. They have the clauses of the plain ones.
 
-ghost use Rattle.std.specs.Prelude.{◌≡◌, ◌↔◌, ℕ, [], ◌+◌, ◌*◌, ◌<◌, IsSome, IfSome, length, slice_index_or};
+ghost use Rattle.std.specs.Prelude.{◌≡◌, ◌↔◌, ℕ, [], ◌+◌, ◌*◌, ◌++◌, ◌<◌, IsSome, IfSome, length, slice_index_or};
 ghost use Rattle.dv_lmots.specs.Lmots.{HasOtsForm, candidate_of, key_of, ots_of, private_value, value_in};
 
 use crate::chain::Chain;
@@ -23,7 +23,7 @@ pub fn sign_ots(id: &[u8; 16], seed: &[u8; 32], q: u32, message: &[u8]) -> [u8; 
     ensures { result ≡ ots_of id.now seed.now q message.now }
 {
     let c = randomizer(id, seed, q);
-    let digits = digits(id, q, &c, message);
+    let digits = digits(id, q, &c, &[], message);
     let start = private_values(id, seed, q);
     let ends = walk_all(id, q, &start, &[0; CHAINS], &digits);
     let mut octets = signature::start(&c);
@@ -39,11 +39,25 @@ pub fn candidate(id: &[u8; 16], q: u32, message: &[u8], signature: &[u8]) -> Opt
     ensures form { IsSome result ↔ HasOtsForm signature.now }
     ensures value { IfSome result (λ key. key ≡ candidate_of id.now q message.now signature.now) }
 {
+    candidate_joined(id, q, &[], message, signature)
+}
+
+/// The same for a message that is in two parts, `rest` behind `front`, so that they needn't be copied together.
+pub fn candidate_joined(
+    id: &[u8; 16],
+    q: u32,
+    front: &[u8],
+    rest: &[u8],
+    signature: &[u8],
+) -> Option<[u8; 32]>
+    ensures form { IsSome result ↔ HasOtsForm signature.now }
+    ensures value { IfSome result (λ key. key ≡ candidate_of id.now q (front.now ++ rest.now) signature.now) }
+{
     if !signature::has_form(signature) {
         return None;
     }
     let c = signature::hash_at(signature, 4);
-    let digits = digits(id, q, &c, message);
+    let digits = digits(id, q, &c, front, rest);
     let ends = walk_all(id, q, &signed_values(signature), &digits, &[255; CHAINS]);
     Some(key_from(id, q, &ends))
 }

@@ -5,7 +5,7 @@
 //! A one-time key is named by the identifier `id` of its tree, the tree's `seed` and the number `q`
 //! of its leaf. `public_of` gives its public key, `sign_ots` its signature of a message, and
 //! `candidate` the public key that a signature of a message gives, which is the signer's where the
-//! signature is good. Each answers exactly what the standard's formulas say, as `specs/Lmots.antt`
+//! signature is good; `candidate_joined` does so for a message in two parts. Each answers exactly what the standard's formulas say, as `specs/Lmots.antt`
 //! has them, for every number `q`. None takes memory, and each makes one compression of SHA-256 for
 //! a step of a chain. Chains go four at a time, a chain in each lane of `dv_lanes`; `plain` has the
 //! same calls under the same clauses as the definition's plain program, one chain after another.
@@ -19,7 +19,7 @@
 //! `byteorder` for the numbers in its buffers.
 #![tactic(auto)]
 
-pub use lanes::{candidate, public_of, sign_ots};
+pub use lanes::{candidate, candidate_joined, public_of, sign_ots};
 pub use law::signature_gives_key;
 
 mod chain;

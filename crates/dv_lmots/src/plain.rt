@@ -27,7 +27,7 @@ pub fn sign_ots(id: &[u8; 16], seed: &[u8; 32], q: u32, message: &[u8]) -> [u8; 
     ensures { result ≡ ots_of id.now seed.now q message.now }
 {
     let c = randomizer(id, seed, q);
-    let digits = digits(id, q, &c, message);
+    let digits = digits(id, q, &c, &[], message);
     let mut octets = signature::start(&c);
     for i in 0..CHAINS {
         let mut chain = Chain::at_private_value(id, seed, q, i as u16);
@@ -47,7 +47,7 @@ pub fn candidate(id: &[u8; 16], q: u32, message: &[u8], signature: &[u8]) -> Opt
         return None;
     }
     let c = signature::hash_at(signature, 4);
-    let digits = digits(id, q, &c, message);
+    let digits = digits(id, q, &c, &[], message);
     let mut hasher = key_hasher(id, q);
     for i in 0..CHAINS {
         let value = signature::hash_at(signature, 36 + 32 * i);

@@ -4,8 +4,9 @@
 //! A `Key` is made from the height of its tree, an identifier and a seed. `Key::public` gives the 60
 //! octets of its public key, and `Key::sign` its signature of a message with a leaf. `verify` says
 //! whether a signature is one of a message under a public key: true exactly where the standard's
-//! verification accepts it, with nothing before, between or after its parts. Each call of it adds one
-//! step to the counter that it is lent, whatever it answers. `signed_verifies` is the law that what a
+//! verification accepts it, with nothing before, between or after its parts; `verify_joined` says so of
+//! a message in two parts. Each call of them adds one step to the counter that it is lent, whatever it
+//! answers. `signed_verifies` is the law that what a
 //! key signs verifies under its public octets.
 //!
 //! Signing and verifying take no memory. What the octets are is said by the definitions in `specs/`:
@@ -20,7 +21,7 @@ pub use height::Height;
 pub use key::{Key, signed_verifies};
 pub use signature::Signature;
 pub use steps::Steps;
-pub use verification::verify;
+pub use verification::{verify, verify_joined};
 
 mod height;
 mod key;

@@ -5,7 +5,7 @@
 
 ghost use Rattle.std.specs.Prelude.{◌≡◌, ◌<◌, IfOk};
 
-use crate::{Height, Key, Steps, verify};
+use crate::{Height, Key, Steps, verify, verify_joined};
 use sha2::{Digest, Sha256};
 use std::alloc::{AllocError, Global};
 use std::marker::Brand;
@@ -75,6 +75,19 @@ fn verifies(public: &[u8], message: &[u8], signature: &[u8]) -> bool {
     counted::<Brand>(public, message, signature, Blank::new(1))
 }
 
+fn counted_in_parts<L: Ledger>(front: &[u8], rest: &[u8], signature: &[u8], blank: Blank) -> bool
+    requires name { blank.name ≡ L.name }
+    requires parts { blank.parts ≡ L.parts }
+    requires some { 0 < blank.parts }
+{
+    let mut checks = Steps::<L>::new(blank);
+    verify_joined(&PUBLIC, front, rest, signature, &mut checks)
+}
+
+fn verifies_in_parts(front: &[u8], rest: &[u8], signature: &[u8]) -> bool {
+    counted_in_parts::<Brand>(front, rest, signature, Blank::new(1))
+}
+
 fn lend<T: Sync>(_value: &T) {}
 
 fn give<T: Send + Drop>(_value: T) {}
@@ -105,6 +118,21 @@ fn last_leaf_signs(rt: HostRuntime) -> Result<(), Fail> {
     assert_eq!(rt; Sha256::digest(octets), HASH_AT_LEAF_31);
     assert!(rt; verifies(&PUBLIC, MESSAGE, octets));
     assert!(rt; !verifies(&PUBLIC, b"another message", octets));
+    Ok(())
+}
+
+#[test]
+fn message_in_two_parts(rt: HostRuntime) -> Result<(), Fail> {
+    let signature = key(rt.alloc())?.sign(4, MESSAGE);
+    let octets = signature.as_slice();
+    for cut in [0, 1, 64, MESSAGE.len()] {
+        let cut = cut.min(MESSAGE.len());
+        assert!(rt;
+            verifies_in_parts(&MESSAGE[..cut], &MESSAGE[cut..], octets),
+            "cut at {cut}"
+        );
+    }
+    assert!(rt; !verifies_in_parts(MESSAGE, b"more", octets));
     Ok(())
 }
 

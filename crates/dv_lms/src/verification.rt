@@ -1,6 +1,6 @@
 //! Verifying signatures (RFC 8554 5.4.2 and 6.3).
 
-ghost use Rattle.std.specs.Prelude.{◌≡◌, ◌+◌, ◌*◌, ◌<◌, ◌≤◌, ◌↔◌, IsTrue, IfSome, IfNone, length, slice_range};
+ghost use Rattle.std.specs.Prelude.{◌≡◌, ◌+◌, ◌*◌, ◌++◌, ◌<◌, ◌≤◌, ◌↔◌, IsTrue, IfSome, IfNone, length, slice_range};
 ghost use Rattle.std.specs.Int.{w32, to_be_bytes};
 ghost use Rattle.dv_lmots.specs.Lmots.{HasOtsForm};
 ghost use Rattle.dv_lms.specs.declared.height.Height.{Height};
@@ -28,10 +28,25 @@ pub fn verify<L: Ledger>(
     ensures verifies { IsTrue result ↔ Verifies public.now message.now signature.now }
     ensures step { checks.new ≡ checks.old + 1 }
 {
+    verify_joined(public, &[], message, signature, checks)
+}
+
+/// The same for a message that is in two parts, `rest` behind `front`, so that they needn't be copied together. Counts one
+/// step too.
+pub fn verify_joined<L: Ledger>(
+    public: &[u8],
+    front: &[u8],
+    rest: &[u8],
+    signature: &[u8],
+    checks: &mut Steps<L>,
+) -> bool
+    ensures verifies { IsTrue result ↔ Verifies public.now (front.now ++ rest.now) signature.now }
+    ensures step { checks.new ≡ checks.old + 1 }
+{
     checks.tick();
     match key_height(public) {
         Some(height) => {
-            has_frame(height, signature) && gives_root(height, public, message, signature)
+            has_frame(height, signature) && gives_root(height, public, front, rest, signature)
         }
         None => false,
     }
@@ -75,17 +90,17 @@ fn has_frame(height: Height, signature: &[u8]) -> bool
 }
 
 // Whether the signature holds a one-time signature and gives the root of the public key.
-fn gives_root(height: Height, public: &[u8], message: &[u8], signature: &[u8]) -> bool
+fn gives_root(height: Height, public: &[u8], front: &[u8], rest: &[u8], signature: &[u8]) -> bool
     requires key { IsPublicKey height public.now }
     requires len { length signature.now ≡ signature_len height }
     requires leaf { leaf_in signature.now < leaf_count height }
     ensures { IsTrue result ↔ HasOtsForm (ots_in signature.now)
-        × (root_from height (id_in public.now) message.now signature.now ≡ root_in public.now) }
+        × (root_from height (id_in public.now) (front.now ++ rest.now) signature.now ≡ root_in public.now) }
 {
     let mut id = [0; 16];
     id.copy_from_slice(&public[12..28]);
     let q = leaf_number(signature);
-    match dv_lmots::candidate(&id, q, message, &signature[8..1132]) {
+    match dv_lmots::candidate_joined(&id, q, front, rest, &signature[8..1132]) {
         Some(ots_key) => climb(height, &id, q, &ots_key, signature).as_slice() == &public[28..60],
         None => false,
     }

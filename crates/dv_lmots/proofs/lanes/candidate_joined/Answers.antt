@@ -3,7 +3,7 @@ use Rattle.std.specs.Prelude.{slice_index_or}
 use Rattle.std.proofs.lemmas.List.{get_or-replicate}
 use Rattle.dv_lmots.specs.Lmots.{chain, completed_value}
 use Rattle.dv_lmots.proofs.Completed.{key_from_same}
-use Rattle.dv_lmots.proofs.lanes.candidate.Goals as goal
+use Rattle.dv_lmots.proofs.lanes.candidate_joined.Goals as goal
 
 pub walk_all-ends-requires : goal.walk_all-ends-requires
 walk_all-ends-requires c i lt =
