@@ -1,0 +1,11 @@
+pub mod Attributes
+pub mod Certificates
+pub mod Check
+pub mod Essential
+pub mod Fields
+pub mod Kinds
+pub mod Messages
+pub mod Places
+pub mod SidView
+pub mod SignedView
+pub mod SignerView
