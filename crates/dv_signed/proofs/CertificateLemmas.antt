@@ -2,17 +2,14 @@
 use Rattle.std.proofs.Common.{◌≡◌, ◌≤◌, ◌<◌, ◌+◌, ℕ, Bool, true, false, eqb, is_some, Option, Some, None, Result, Ok, Err, List, [], ◌∷◌, length, inl, inr, refl, sym, ap, ◌∙◌, arith}
 use Rattle.std.specs.Borrow.{Bor}
 use Rattle.std.specs.Prelude.{IfSome, MatchOption, filter}
-use Rattle.std.proofs.lemmas.List.{length-append}
 use Rattle.std.proofs.lemmas.Bool.{cases_Bool, ne_eqb}
 use Rattle.dv_schema.specs.declared.refusal.Der.{Der}
 use Rattle.dv_schema.specs.Octets.{IsBytes}
-use Rattle.dv_schema.specs.Tlv.{length_octets, tlv}
 use Rattle.dv_schema.specs.Schema.{Schema}
 use Rattle.dv_schema.specs.Types.{list_of}
-use Rattle.dv_schema.specs.Reading.{Spot, all_at, maybe_at, read}
+use Rattle.dv_schema.specs.Reading.{Spot, maybe_at, read}
 use Rattle.dv_schema.specs.Decodes.{HasSpelling}
 use Rattle.dv_schema.proofs.Tools.{bind_ok, ok_is}
-use Rattle.dv_schema.proofs.Takes.{takes}
 use Rattle.dv_schema.proofs.Kept.{kept_value}
 use Rattle.dv_schema.proofs.Counts.{member_fault, member_none, member_turn}
 use Rattle.dv_schema.proofs.Lists.{members_few, members_read}
@@ -21,6 +18,7 @@ use Rattle.dv_members.specs.Members.{front_of, values_in}
 use Rattle.dv_members.proofs.MemberLemmas.{list_values}
 use Rattle.dv_cms.specs.Types.{certificate_choice}
 use Rattle.dv_signed.specs.Certificates.{AreLeft, certificates_in, is_certificate}
+use Rattle.dv_signed.proofs.SetLemmas.{list_shorter}
 
 -- at the front of a set all of them are left
 pub all_left : (set : List ℕ) → ∥ HasSpelling (list_of 160 false certificate_choice) set ∥₁ → AreLeft (certificates_in (Some set)) (front_of set)
@@ -111,8 +109,4 @@ pub set_read : (b : Bool) (p q : Spot) (set : List ℕ) → IsBytes p.rest → p
 set_read b p q set bytes levels room e =
     let s : Schema = list_of 160 false certificate_choice in
     let one = maybe_some b p (read s p) set q e in
-    let t = takes s p (set, q) bytes one in
-    record {
-      spelled = kept_value s p (set, q) bytes levels room one;
-      shorter = omega (arith, ap length t.0.octets, length-append (tlv 160 set) q.rest, length-append (160 ∷ length_octets (length set)) set);
-    }
+    record { spelled = kept_value s p (set, q) bytes levels room one; shorter = list_shorter 160 false certificate_choice p q set bytes one }

@@ -13,6 +13,7 @@
 #![tactic(auto)]
 
 mod certificates;
+mod encapsulated;
 mod fault;
 mod sid;
 mod signed_data;

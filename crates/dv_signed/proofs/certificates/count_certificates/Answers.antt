@@ -1,4 +1,4 @@
-use Rattle.std.proofs.Common.{◌+◌, ◌∙◌, Some, length, ap, sym, subst, arith}
+use Rattle.std.proofs.Common.{◌∙◌, Some, length, ap, sym, subst, arith}
 use Rattle.dv_signed.specs.Certificates.{AreLeft, certificates_in}
 use Rattle.dv_signed.proofs.CertificateLemmas.{all_left, left_few, less_left, none_found, one_found}
 use Rattle.dv_signed.proofs.certificates.count_certificates.Goals as goal

@@ -1,7 +1,5 @@
-use Rattle.std.proofs.Common.{◌∙◌, Ok, Option, ap, arith}
-use Rattle.std.specs.Borrow.{Bor}
+use Rattle.std.proofs.Common.{◌∙◌, Ok, ap, arith}
 use Rattle.std.specs.Option.{option_copied}
-use Rattle.std.specs.List
 use Rattle.dv_signed.proofs.CertificateLemmas.{IsSet, set_read}
 use Rattle.dv_signed.proofs.certificates.read_certificates.Goals as goal
 
