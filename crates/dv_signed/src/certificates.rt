@@ -83,7 +83,8 @@ pub(crate) fn certificate_at<'a>(set: &'a [u8], i: u32) -> Option<&'a [u8]>
 /// The next certificate in a set; None where none is left.
 fn next_certificate<'a>(c: &mut Cursor<'a>) -> Option<&'a [u8]>
     ensures certificate { (cs : List (List ℕ)) → AreLeft cs c.old
-        → MatchOption result (cs ≡ []) (λ o. (ds : List (List ℕ)) × (cs ≡ o.now ∷ ds) × AreLeft ds c.new) }
+        → MatchOption result (cs ≡ [])
+        (λ o. (ds : List (List ℕ)) × (cs ≡ o.now ∷ ds) × AreLeft ds c.new) }
     ensures less { IfSome result (λ o. length c.new.rest < length c.old.rest) }
 {
     while let Ok(octets) = c.skip_one_of(&CHOICES) {

@@ -32,12 +32,12 @@ impl<'a> Encapsulated<'a> {
     /// Reads an encapContentInfo.
     #[tactic(auto, unfolding(dv_schema::specs::Reading::read))]
     pub(crate) fn read(c: &mut Cursor<'a>) -> Result<Encapsulated<'a>, Der>
-        ensures read { Reads (λ e. encapsulated_with e.content_type.now (option_copied e.content)) result c.old c.new
-            (read encapsulated c.old) }
-        ensures type_place { IfOk result
-            (λ e. e.type_place ≡ type_place_at c.old.place (encapsulated_with e.content_type.now (option_copied e.content))) }
-        ensures content_place { IfOk result
-            (λ e. e.content_place ≡ octets_place_at (e.type_place + length (tlv 6 e.content_type.now)) (option_copied e.content)) }
+        ensures read { Reads (λ e. encapsulated_with e.content_type.now (option_copied e.content))
+            result c.old c.new (read encapsulated c.old) }
+        ensures type_place { IfOk result (λ e. e.type_place
+            ≡ type_place_at c.old.place (encapsulated_with e.content_type.now (option_copied e.content))) }
+        ensures content_place { IfOk result (λ e. e.content_place
+            ≡ octets_place_at (e.type_place + length (tlv 6 e.content_type.now)) (option_copied e.content)) }
     {
         let mut next = c.fork();
         let mut inside = next.enter(0x30)?;

@@ -50,7 +50,8 @@ impl Sid<'_> {
 
     /// Whether it names the certificate with this issuer, serial number and subjectKeyIdentifier.
     pub(crate) fn names(&self, issuer: &Name<'_>, serial: &[u8], key_id: Option<&[u8]>) -> bool
-        ensures { result ≡ names (view_sid self.now) issuer.now.raw.now serial.now (option_copied key_id.entry) }
+        ensures { result
+            ≡ names (view_sid self.now) issuer.now.raw.now serial.now (option_copied key_id.entry) }
     {
         match self {
             Sid::Issuer { name, serial: own } => same(name.raw, issuer.raw) && same(own, serial),
@@ -65,7 +66,8 @@ impl Sid<'_> {
 /// Reads an issuer and the contents octets of a serial number. `Value` where these are more than 20.
 #[tactic(auto, unfolding(dv_schema::specs::Reading::read))]
 fn read_issuer<'a>(c: &mut Cursor<'a>) -> Result<(Name<'a>, &'a [u8]), Der>
-    ensures { Reads (λ x. (view_name x.0, (x.1.now, tt))) result c.old c.new (read issuer_and_serial c.old) }
+    ensures { Reads (λ x. (view_name x.0, (x.1.now, tt))) result c.old c.new
+        (read issuer_and_serial c.old) }
 {
     let mut next = c.fork();
     let mut inside = next.enter(ISSUER)?;

@@ -74,7 +74,8 @@ impl SignerInfo<'_> {
     /// Whether it names the certificate with this issuer, serial number and subjectKeyIdentifier (RFC 5652 5.3): by the issuer,
     /// octet for octet, and the serial number, given by its contents octets; or by the subjectKeyIdentifier, where there is one.
     pub fn names(&self, issuer: &Name<'_>, serial: &[u8], key_id: Option<&[u8]>) -> bool
-        ensures { result ≡ names (view_sid self.now.sid) issuer.now.raw.now serial.now (option_copied key_id.entry) }
+        ensures { result
+            ≡ names (view_sid self.now.sid) issuer.now.raw.now serial.now (option_copied key_id.entry) }
     {
         self.sid.names(issuer, serial, key_id)
     }
