@@ -14,6 +14,7 @@
 
 mod digest;
 mod fault;
+mod header;
 mod sid;
 mod signed_data;
 mod signer;
