@@ -1,1 +1,2 @@
+pub mod AttributeLists
 pub mod Sameness

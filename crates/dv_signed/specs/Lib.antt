@@ -1,3 +1,4 @@
+pub mod AttributeView
 pub mod Attributes
 pub mod Certificates
 pub mod Check

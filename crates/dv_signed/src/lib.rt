@@ -12,6 +12,7 @@
 //! `dv_lms` for signatures, `sha2` for digests, and `dv_asn1` over the definitions of `dv_schema`.
 #![tactic(auto)]
 
+mod attributes;
 mod digest;
 mod fault;
 mod header;
