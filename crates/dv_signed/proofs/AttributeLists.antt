@@ -1,19 +1,24 @@
 -- Going over attributes that were read.
-use Rattle.std.proofs.Common.{◌≡◌, ◌∙◌, ◌&&◌, ◌||◌, ℕ, Bool, true, false, Option, Some, None, Result, Ok, Err, List, [], ◌∷◌, length, eqb, map, not, inl, inr, refl, sym, ap, subst}
+use Rattle.std.proofs.Common.{◌≡◌, ◌∙◌, ◌&&◌, ◌||◌, ℕ, Bool, true, false, Option, Some, None, Result, Ok, Err, List, [], ◌∷◌, length, eqb, map, not, inl, inr, refl, sym, ap, arith}
 use Rattle.std.specs.Prelude.{IsOkAnd, is_some, option_map}
 use Rattle.std.specs.Borrow.{Bor}
 use Rattle.std.specs.Option.{option_copied}
-use Rattle.std.proofs.lemmas.Bool.{cases_Bool}
+use Rattle.std.proofs.lemmas.Bool.{cases_Bool, eqb-true, ne_eqb}
 use Rattle.dv_schema.specs.declared.refusal.Der.{Der}
 use Rattle.dv_schema.specs.Octets.{are_apart, is_one_of, same_octets}
 use Rattle.dv_schema.specs.Schema.{Schema, ValueOf}
-use Rattle.dv_schema.specs.Reading.{Spot, all_at, read}
+use Rattle.dv_schema.specs.Types.{any}
+use Rattle.dv_schema.specs.Reading.{Spot, ◌>>=◌, all_at, read}
 use Rattle.dv_schema.proofs.Counts.{member_fault, member_turn}
+use Rattle.dv_schema.proofs.Moves.{moves, read_moves, skip_err}
+use Rattle.dv_schema.proofs.Nodes.{skipped_fault}
+use Rattle.dv_schema.proofs.Orders.{all_one}
+use Rattle.dv_members.specs.Members.{front_of, or_none, values_in}
 use Rattle.dv_cms.specs.Types.{attribute}
 use Rattle.dv_x509.specs.Uses.{first_named}
 use Rattle.dv_signed.specs.declared.attributes.Attribute.{Attribute}
 use Rattle.dv_signed.specs.AttributeView.{view_attribute}
-use Rattle.dv_signed.specs.Attributes.{type_of}
+use Rattle.dv_signed.specs.Attributes.{one_value, type_of}
 use Rattle.dv_signed.proofs.Sameness.{same_swap}
 
 -- the first of the members that are left
@@ -91,3 +96,50 @@ first_repeated x xs e = let more = seen_more [] xs x in rw (more, e) refl
 -- or isn't
 pub first_alone : (x : List ℕ) (xs : List (List ℕ)) → is_one_of xs x ≡ false → are_apart [] xs ≡ are_apart [] (x ∷ xs)
 first_alone x xs e = let more = seen_more [] xs x in rw (more, e) refl
+
+-- ---- the one value of a set
+
+-- behind the last value there is none
+none_left : (p : Spot) → eqb (length p.rest) 0 ≡ true → all_at (read any) (length p.rest) p ≡ Ok []
+unfolding all_at
+none_left p none = ap (λ (k : ℕ). all_at (read any) k p) (eqb-true _ _ none)
+
+-- where a value was read there are octets
+some_read : (p : Spot) (x : List ℕ × Spot) → read any p ≡ Ok x → eqb (length p.rest) 0 ≡ false
+some_read p x e = let m = moves any p x e in ne_eqb (length p.rest) 0 (λ z. absurd (omega (arith, m.less, z)))
+
+-- nothing but one value
+pub one_alone : (octets : List ℕ) (x : List ℕ × Spot) → read any (front_of octets) ≡ Ok x → eqb (length x.1.rest) 0 ≡ true → Some x.0 ≡ one_value (Some (values_in any octets))
+unfolding values_in
+one_alone octets x e none =
+    let end = none_left x.1 none in
+    let all = all_one (read any) (front_of octets) x (read_moves any) (some_read (front_of octets) x e) e in
+    rw (all, end) refl
+
+-- two values and more, or a refusal
+not_one : (x y : List ℕ) (r : Result (List (List ℕ)) Der) → None ≡ one_value (Some (or_none ((r >>= λ ys. Ok (y ∷ ys)) >>= λ xs. Ok (x ∷ xs))))
+not_one x y (Ok ys) = refl
+not_one x y (Err d) = refl
+
+-- more behind the first value
+pub one_of_many : (octets : List ℕ) (x : List ℕ × Spot) → read any (front_of octets) ≡ Ok x → eqb (length x.1.rest) 0 ≡ false → None ≡ one_value (Some (values_in any octets))
+unfolding values_in
+one_of_many octets x e some = go (read any x.1) refl
+  where
+    all : all_at (read any) (length octets) (front_of octets) ≡ (all_at (read any) (length x.1.rest) x.1 >>= λ xs. Ok (x.0 ∷ xs))
+    all = all_one (read any) (front_of octets) x (read_moves any) (some_read (front_of octets) x e) e
+
+    go : (r : Result (List ℕ × Spot) Der) → read any x.1 ≡ r → None ≡ one_value (Some (or_none (all_at (read any) (length octets) (front_of octets))))
+    go (Ok y) is =
+        let more = all_one (read any) x.1 y (read_moves any) some is in
+        rw (all, more) (not_one x.0 y.0 (all_at (read any) (length y.1.rest) y.1))
+    go (Err d) is = let bad = skipped_fault (all_at (read any) (length x.1.rest) x.1) d (skip_err (read any) x.1 d some is) in rw (all, bad) refl
+
+-- no value at the front
+pub one_refused : (octets : List ℕ) (d : Der) → read any (front_of octets) ≡ Err d → None ≡ one_value (Some (values_in any octets))
+unfolding values_in
+one_refused octets d e =
+    elim (cases_Bool (eqb (length octets) 0)) [
+      | inl t ↦ (let end = none_left (front_of octets) t in rw end refl)
+      | inr f ↦ (let bad = skipped_fault (all_at (read any) (length octets) (front_of octets)) d (skip_err (read any) (front_of octets) d f e) in rw bad refl)
+    ]

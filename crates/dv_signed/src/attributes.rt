@@ -1,15 +1,16 @@
 //! The signed attributes of a signer.
 
-ghost use Rattle.std.specs.Prelude.{◌≡◌, ◌<◌, List, [], IfOk, IsOkAnd, length, map, not, option_map, Ok};
+ghost use Rattle.std.specs.Prelude.{◌≡◌, ◌<◌, List, [], IfOk, IsOkAnd, length, map, not, option_map, Ok, Some};
 ghost use Rattle.std.specs.Option.{option_copied};
 ghost use Rattle.dv_schema.specs.Octets.{are_apart};
 ghost use Rattle.dv_schema.specs.Schema.{ValueOf};
 ghost use Rattle.dv_schema.specs.Reading.{Spot, all_at, read};
+ghost use Rattle.dv_schema.specs.Types.{any};
 ghost use Rattle.dv_cms.specs.Types.{attribute as attribute_type};
-ghost use Rattle.dv_members.specs.Members.{front_of};
+ghost use Rattle.dv_members.specs.Members.{values_in};
 ghost use Rattle.dv_x509.specs.Uses.{first_named};
 ghost use Rattle.dv_signed.specs.AttributeView.{view_attribute};
-ghost use Rattle.dv_signed.specs.Attributes.{type_of};
+ghost use Rattle.dv_signed.specs.Attributes.{one_value, type_of, values_under};
 
 use dv_asn1::{Cursor, Der, same};
 
@@ -84,4 +85,28 @@ pub(crate) fn has_repeated_type(attributes: &Cursor<'_>) -> bool
         }
     }
     false
+}
+
+/// The one value of the first attribute with this type, in the contents of a set that was read; None where it isn't there
+/// with one.
+pub(crate) fn find_value<'a>(attributes: &Cursor<'a>, oid: &[u8]) -> Option<&'a [u8]>
+    ensures { (vs : List (ValueOf attribute_type))
+        → all_at (read attribute_type) (length attributes.now.rest) attributes.now ≡ Ok vs
+        → option_copied result ≡ one_value (values_under oid.now vs) }
+{
+    match find_values(attributes, oid) {
+        None => None,
+        Some(values) => one_value(values),
+    }
+}
+
+/// The one value in the contents of a set; None where they aren't one value.
+pub(crate) fn one_value(values: &[u8]) -> Option<&[u8]>
+    ensures { option_copied result ≡ one_value (Some (values_in any values.now)) }
+{
+    let mut next = Cursor::new(values);
+    match next.skip_value() {
+        Err(_) => None,
+        Ok(value) => { if next.at_end() { Some(value) } else { None } }
+    }
 }
