@@ -1,2 +1,3 @@
 pub mod AttributeLists
+pub mod CertificateIds
 pub mod Sameness

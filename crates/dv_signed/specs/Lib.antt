@@ -4,6 +4,7 @@ pub mod Certificates
 pub mod Check
 pub mod Essential
 pub mod Fields
+pub mod IdView
 pub mod Kinds
 pub mod Messages
 pub mod Places

@@ -14,6 +14,7 @@
 
 mod attributes;
 mod digest;
+mod essential;
 mod fault;
 mod header;
 mod sid;
