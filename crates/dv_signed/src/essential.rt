@@ -8,10 +8,11 @@ ghost use Rattle.dv_schema.specs.Types.{but};
 ghost use Rattle.dv_names.specs.Types.{algorithm_identifier};
 ghost use Rattle.dv_names.specs.Views.{view_algorithm};
 ghost use Rattle.dv_members.specs.Members.{front_of};
-ghost use Rattle.dv_signed.specs.Essential.{certificate_id, names_certificate, names_first, sha256_octets, signing_certificate};
+ghost use Rattle.dv_signed.specs.Essential.{certificate_id, is_digest_by, kind_or_default, names_certificate, names_first, sha256_octets, signing_certificate};
 
+use crate::digest::is_digest;
 use dv_asn1::{Cursor, Decode, Der, Member, Why, read_list};
-use dv_names::AlgId;
+use dv_names::{AlgId, DigestKind, digest_kind};
 
 /// The tag of a SEQUENCE.
 const SEQUENCE: u8 = 0x30;
@@ -113,5 +114,55 @@ impl<'a> Decode<'a> for SigningCertificate<'a> {
         inside.finish()?;
         *c = next;
         Ok(SigningCertificate { certs, policies })
+    }
+}
+
+/// Whether the octets are a SigningCertificateV2 whose first hash is, by a known algorithm, that of the certificate.
+pub(crate) fn names_certificate(value: &[u8], certificate: &[u8]) -> bool
+    ensures { result ≡ names_certificate certificate.now value.now }
+{
+    let mut next = Cursor::new(value);
+    let _octets = next.fork();
+    match SigningCertificate::read(&mut next) {
+        Err(_) => false,
+        Ok(signing) => {
+            if next.at_end() {
+                names_first(signing.certs, certificate)
+            } else {
+                false
+            }
+        }
+    }
+}
+
+/// Whether the first of the hashes in the contents of a list that was read is that of the certificate.
+fn names_first(certs: &[u8], certificate: &[u8]) -> bool
+    ensures { (vs : List (ValueOf certificate_id))
+        → all_at (read certificate_id) (length certs.now) (front_of certs.now) ≡ Ok vs
+        → result ≡ names_first certificate.now vs }
+{
+    match CertificateId::read(&mut Cursor::new(certs)) {
+        Err(_) => false,
+        Ok(id) => is_hash(&id, certificate),
+    }
+}
+
+/// Whether the hash is by a known algorithm that of the certificate.
+fn is_hash(id: &CertificateId<'_>, certificate: &[u8]) -> bool
+    ensures { result ≡ is_digest_by (kind_or_default (option_map view_algorithm id.now.hash_alg)) certificate.now id.now.hash.now }
+{
+    match hash_kind(id) {
+        None => false,
+        Some(kind) => is_digest(kind, certificate, id.hash),
+    }
+}
+
+/// The algorithm of the hash, where it is a known one.
+fn hash_kind(id: &CertificateId<'_>) -> Option<DigestKind>
+    ensures { result ≡ kind_or_default (option_map view_algorithm id.now.hash_alg) }
+{
+    match id.hash_alg {
+        None => Some(DigestKind::Sha256),
+        Some(algorithm) => digest_kind(&algorithm),
     }
 }
