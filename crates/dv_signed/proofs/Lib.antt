@@ -1,3 +1,4 @@
 pub mod AttributeLists
 pub mod CertificateIds
 pub mod Sameness
+pub mod SignerAttributes

@@ -13,6 +13,7 @@
 #![tactic(auto)]
 
 mod attributes;
+mod check;
 mod digest;
 mod essential;
 mod fault;
