@@ -1,6 +1,6 @@
 -- Going over attributes that were read.
 use Rattle.std.proofs.Common.{◌≡◌, ◌∙◌, ◌&&◌, ◌||◌, ℕ, Bool, true, false, Option, Some, None, Result, Ok, Err, List, [], ◌∷◌, length, eqb, map, not, inl, inr, refl, sym, ap, arith}
-use Rattle.std.specs.Prelude.{IsOkAnd, is_some, option_map}
+use Rattle.std.specs.Prelude.{is_some, option_map}
 use Rattle.std.specs.Borrow.{Bor}
 use Rattle.std.specs.Option.{option_copied}
 use Rattle.std.proofs.lemmas.Bool.{cases_Bool, eqb-true, ne_eqb}
@@ -16,8 +16,6 @@ use Rattle.dv_schema.proofs.Orders.{all_one}
 use Rattle.dv_members.specs.Members.{front_of, or_none, values_in}
 use Rattle.dv_cms.specs.Types.{attribute}
 use Rattle.dv_x509.specs.Uses.{first_named}
-use Rattle.dv_signed.specs.declared.attributes.Attribute.{Attribute}
-use Rattle.dv_signed.specs.AttributeView.{view_attribute}
 use Rattle.dv_signed.specs.Attributes.{one_value, type_of}
 use Rattle.dv_signed.proofs.Sameness.{same_swap}
 

@@ -1,5 +1,5 @@
 -- The signed attributes of a signer that is known to have a spelling.
-use Rattle.std.proofs.Common.{◌≡◌, ◌∙◌, ℕ, true, false, Option, Some, None, Result, Ok, List, length, refl, sym, ap, subst, arith}
+use Rattle.std.proofs.Common.{◌≡◌, ◌∙◌, ℕ, true, false, Option, Some, None, Result, Ok, List, refl, sym, ap, subst, arith}
 use Rattle.std.specs.Prelude.{IfSome}
 use Rattle.std.proofs.Math.Nat.{ℕ_set}
 use Rattle.std.proofs.Math.Logic.{∥∥₁_elim}
@@ -14,7 +14,7 @@ use Rattle.dv_schema.specs.Decodes.{HasSpelling}
 use Rattle.dv_schema.proofs.Kept.{value_set}
 use Rattle.dv_schema.proofs.Lists.{members_read}
 use Rattle.dv_schema.proofs.Spellings.{fields_more}
-use Rattle.dv_members.specs.Members.{front_of, values_in}
+use Rattle.dv_members.specs.Members.{front_of}
 use Rattle.dv_members.proofs.MemberLemmas.{values_of_octets}
 use Rattle.dv_cms.specs.Types.{attribute, signer_info}
 use Rattle.dv_names.specs.declared.digest.DigestKind.{DigestKind}

@@ -7,7 +7,7 @@ ghost use Rattle.dv_lms.specs.Verifies.{Verifies};
 ghost use Rattle.dv_names.specs.Views.{view_algorithm};
 ghost use Rattle.dv_x509.specs.Uses.{is_hss as hss};
 ghost use Rattle.dv_signed.specs.Attributes.{AreAttributes};
-ghost use Rattle.dv_signed.specs.Check.{IsFault, Signs, early_fault, fault_in, fault_with};
+ghost use Rattle.dv_signed.specs.Check.{IsFault, Signed, Signs, early_fault, fault_in, fault_with};
 ghost use Rattle.dv_signed.specs.SignerView.{view_signer};
 
 use crate::attributes::{are_right, has_digest};
@@ -107,5 +107,70 @@ fn fault_with(
                 None
             }
         }
+    }
+}
+
+/// Whether the signature is one under the key: of the signed attributes, or of the content where there are none. Counts at
+/// most one step.
+fn has_signed<L: Ledger>(
+    signer: &SignerInfo<'_>,
+    content: &[u8],
+    key: Option<&[u8]>,
+    checks: &mut Steps<L>,
+) -> bool
+    ensures signs { (x : Signed) → x.content ≡ content.now → x.key ≡ option_copied key.entry
+        → (IsTrue result ↔ Signs (view_signer signer.now) x) }
+    ensures steps { checks.new ≤ checks.old + 1 }
+{
+    match key {
+        None => false,
+        Some(key) => match signer.attributes {
+            None => verify(key, content, signer.signature, checks),
+            Some(attributes) => verify_attributes(key, attributes, signer.signature, checks),
+        },
+    }
+}
+
+/// Checks that a signer signed the content of signed data with an HSS key (RFC 5652 5.4 to 5.6; RFC 9708 3).
+///
+/// The signer is refused for the first fault, in this order:
+///
+/// - `Algorithm`: the digest algorithm is none of SHA-256, SHA-384 and SHA-512, its parameters absent or NULL, or the
+///   signature algorithm isn't HSS without parameters;
+/// - `Attribute`: there are signed attributes, and a type stands twice among them, contentType isn't there with one value that
+///   is the content type, messageDigest isn't there with one value, or signingCertificateV2 is there and doesn't have one
+///   value whose first hash is, by one of the three algorithms, that of the certificate; or there are none, and the content
+///   type isn't id-data;
+/// - `Digest`: the value of messageDigest isn't the OCTET STRING of the content's digest;
+/// - `Signature`: there is no key, or the signature isn't one under it of the attributes under the tag of a SET, or of the
+///   content where there are no attributes.
+///
+/// The certificate is that which the signer is said to have, as its whole octets under tag 30, and no octets where none is
+/// named. The condition is that there is content. At most one step is counted, and no memory is taken.
+pub fn signer_check<L: Ledger>(
+    signer: &SignerInfo<'_>,
+    signed: &SignedData<'_>,
+    certificate: &[u8],
+    key: Option<&[u8]>,
+    checks: &mut Steps<L>,
+) -> Result<(), SignerFault>
+    requires { IsSome signed.now.content }
+    ensures fault { (content : List ℕ) → option_copied signed.now.content ≡ Some content
+        → IsFault (view_signer signer.now) (record {
+          type = signed.now.content_type.now;
+          content = content;
+          certificate = certificate.now;
+          key = option_copied key.entry;
+        }) (fault_in result) }
+    ensures steps { checks.new ≤ checks.old + 1 }
+{
+    let content = signed.content.unwrap();
+    if let Some(fault) = early_fault(signer, signed.content_type, content, certificate) {
+        return Err(fault);
+    }
+    if has_signed(signer, content, key, checks) {
+        Ok(())
+    } else {
+        Err(SignerFault::Signature)
     }
 }

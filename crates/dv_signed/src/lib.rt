@@ -22,6 +22,7 @@ mod sid;
 mod signed_data;
 mod signer;
 
+pub use check::signer_check;
 pub use fault::SignerFault;
 pub use sid::Sid;
 pub use signed_data::SignedData;

@@ -1,4 +1,4 @@
-use Rattle.std.proofs.Common.{◌≡◌, ◌∙◌, ◌∷◌, ℕ, true, false, Option, Some, None, List, eqb, length, refl, sym, ap}
+use Rattle.std.proofs.Common.{◌≡◌, ◌∙◌, ◌∷◌, true, false, eqb, length, refl, sym, ap}
 use Rattle.std.specs.Prelude.{option_map}
 use Rattle.dv_schema.specs.Octets.{same_octets}
 use Rattle.dv_schema.specs.Schema.{ValueOf}

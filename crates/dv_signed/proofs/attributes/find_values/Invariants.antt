@@ -2,7 +2,6 @@ use Rattle.std.proofs.Common.{◌≡◌, List, Ok, length}
 use Rattle.dv_schema.specs.Schema.{ValueOf}
 use Rattle.dv_schema.specs.Reading.{all_at, read}
 use Rattle.dv_cms.specs.Types.{attribute}
-use Rattle.dv_members.specs.Members.{front_of}
 use Rattle.dv_x509.specs.Uses.{first_named}
 use Rattle.dv_signed.specs.Attributes.{type_of}
 use Rattle.dv_signed.proofs.attributes.find_values.Given as goal

@@ -1,5 +1,4 @@
-use Rattle.std.proofs.Common.{◌≡◌, ◌∙◌, ◌∷◌, [], ℕ, true, false, List, eqb, length, map, not, refl, sym, ap}
-use Rattle.std.specs.Option.{option_copied}
+use Rattle.std.proofs.Common.{◌≡◌, ◌∙◌, ◌∷◌, [], true, false, List, eqb, length, map, not, refl, sym, ap}
 use Rattle.dv_schema.specs.Octets.{are_apart, is_one_of}
 use Rattle.dv_schema.specs.Schema.{ValueOf}
 use Rattle.dv_schema.specs.Reading.{Spot, all_at, read}
@@ -7,7 +6,7 @@ use Rattle.dv_schema.proofs.Counts.{member_none}
 use Rattle.dv_cms.specs.Types.{attribute}
 use Rattle.dv_signed.specs.AttributeView.{view_attribute}
 use Rattle.dv_signed.specs.Attributes.{type_of}
-use Rattle.dv_signed.proofs.AttributeLists.{IsTurn, first_alone, first_repeated, found_values, next_turn}
+use Rattle.dv_signed.proofs.AttributeLists.{first_alone, first_repeated, found_values, next_turn}
 use Rattle.dv_signed.proofs.attributes.has_repeated_type.Goals as goal
 
 pub loop-next-init : goal.loop-next-init

@@ -1,4 +1,4 @@
-use Rattle.std.proofs.Common.{◌≡◌, ◌∙◌, ℕ, true, false, Ok, Err, List, eqb, length, sym, ap}
+use Rattle.std.proofs.Common.{◌≡◌, ◌∙◌, ℕ, Ok, Err, List, sym, ap}
 use Rattle.dv_schema.specs.Types.{any}
 use Rattle.dv_schema.specs.Reading.{Spot, read}
 use Rattle.dv_members.specs.Members.{front_of}

@@ -1,4 +1,4 @@
-use Rattle.std.proofs.Common.{◌≡◌, ◌∙◌, ℕ, true, Option, Some, List, refl, sym, ap}
+use Rattle.std.proofs.Common.{◌≡◌, ◌∙◌, true, Some, refl, sym}
 use Rattle.dv_names.specs.Digest.{kind_of}
 use Rattle.dv_names.specs.Views.{view_algorithm}
 use Rattle.dv_x509.specs.Uses.{is_hss}

@@ -1,14 +1,11 @@
-use Rattle.std.proofs.Common.{◌≡◌, ◌∙◌, ℕ, true, false, Option, Some, List, sym, ap, subst}
+use Rattle.std.proofs.Common.{◌≡◌, ◌∙◌, ℕ, Some, List, sym, ap, subst}
 use Rattle.std.specs.Option.{option_copied}
 use Rattle.dv_schema.specs.Schema.{ValueOf}
-use Rattle.dv_schema.specs.Tlv.{tlv}
 use Rattle.dv_schema.specs.Reading.{Spot}
-use Rattle.dv_members.specs.Members.{front_of}
 use Rattle.dv_cms.specs.Types.{signer_info}
-use Rattle.dv_signed.specs.Attributes.{AreAttributes, are_octets, are_right, attributes_in, message_digest_of}
+use Rattle.dv_signed.specs.Attributes.{AreAttributes, attributes_in}
 use Rattle.dv_signed.specs.Check.{Signed}
 use Rattle.dv_signed.specs.Fields.{signed_attributes_of}
-use Rattle.dv_signed.specs.Kinds.{digest_by}
 use Rattle.dv_signed.specs.SignerView.{view_signer}
 use Rattle.dv_signed.proofs.SignerAttributes.{attributes_are, no_fault, not_digest, not_right}
 use Rattle.dv_signed.proofs.check.fault_with.Goals as goal

@@ -1,9 +1,8 @@
-use Rattle.std.proofs.Common.{◌≡◌, ◌∙◌, ℕ, ◌-◌, ◌&&◌, Bool, true, false, List, eqb, eq-eqb, get_or, length, take, drop, refl, sym, ap, arith}
+use Rattle.std.proofs.Common.{◌≡◌, ◌∙◌, ℕ, ◌-◌, true, false, List, eqb, eq-eqb, get_or, length, take, drop, refl, sym, ap}
 use Rattle.std.proofs.lemmas.Bool.{ne_eqb}
 use Rattle.std.proofs.lemmas.List.{length-drop}
 use Rattle.std.proofs.Math.Seq.{take-length}
 use Rattle.dv_schema.specs.Octets.{same_octets}
-use Rattle.dv_schema.specs.Tlv.{tlv}
 use Rattle.dv_names.specs.Digest.{length_of}
 use Rattle.dv_signed.specs.Kinds.{digest_by}
 use Rattle.dv_signed.proofs.Sameness.{holds, holds_not, same_swap}

@@ -1,4 +1,4 @@
-use Rattle.std.proofs.Common.{◌≡◌, ◌∙◌, ◌∷◌, Bool, true, false, List, ℕ, take, length, refl, sym, ap}
+use Rattle.std.proofs.Common.{◌≡◌, ◌∙◌, ◌∷◌, true, false, List, ℕ, take, length, refl, sym, ap}
 use Rattle.dv_schema.specs.Octets.{same_octets}
 use Rattle.dv_schema.specs.Tlv.{length_octets}
 use Rattle.dv_signed.proofs.Sameness.{header_told, value_parts, value_short}
