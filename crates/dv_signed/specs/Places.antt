@@ -1,5 +1,5 @@
 -- Where the content of a SignedData stands in its octets: how many octets stand before it.
-use Rattle.std.specs.Prelude.{ℕ, false, ◌+◌, ◌∷◌, length, Option, option_map}
+use Rattle.std.specs.Prelude.{ℕ, false, ◌+◌, List, ◌∷◌, length, Option, option_map}
 use Rattle.dv_schema.specs.Schema.{ValueOf, contents, field, optional, done, spelling}
 use Rattle.dv_schema.specs.Tlv.{length_octets, tlv}
 use Rattle.dv_schema.specs.Types.{explicit, list_of, octet_string, oid}
