@@ -3,7 +3,7 @@ use Rattle.std.specs.Prelude.{◌≡◌, ℕ, Bool, true, false, ◌==◌, ◌||
 use Rattle.std.proofs.Common.{inl, inr}
 use Rattle.dv_schema.specs.Schema.{ValueOf, spelling}
 use Rattle.dv_schema.specs.Fits.{Fits}
-use Rattle.dv_cms.specs.Types.{content_info, signed_data_type}
+use Rattle.dv_cms.specs.Types.{content_info}
 use Rattle.dv_request.specs.Request.{request_data_type}
 use Rattle.dv_request.specs.Types.{data_of_request, dvcs_request, request_time}
 

@@ -1,4 +1,3 @@
-use Rattle.std.proofs.Common.{inl, refl}
 use Rattle.dv_answer.proofs.ReplyLemmas.{message_checks, read_reply_if, unread_reply}
 use Rattle.dv_answer.proofs.reply.answer.Goals as goal
 

@@ -1,4 +1,4 @@
-use Rattle.std.proofs.Common.{None, ap}
+use Rattle.std.proofs.Common.{ap}
 use Rattle.dv_names.specs.Views.{view_digest}
 use Rattle.dv_request.specs.DataView.{view_data}
 use Rattle.dv_request.specs.RequestView.{view_request}
