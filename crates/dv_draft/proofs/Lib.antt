@@ -12,6 +12,6 @@ mod RecordSteps
 mod RefusalPlaces
 pub mod ServerLemmas
 pub mod StatusLemmas
-mod Statuses
+pub mod Statuses
 mod Suches
 mod Told

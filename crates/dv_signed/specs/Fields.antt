@@ -1,5 +1,5 @@
 -- The fields of a SignedData and of its signers as values of their schemas.
-use Rattle.std.specs.Prelude.{◌≡◌, ℕ, List, Option, option_map}
+use Rattle.std.specs.Prelude.{ℕ, List, Option, option_map}
 use Rattle.dv_schema.specs.Schema.{ValueOf}
 use Rattle.dv_names.specs.Types.{algorithm_identifier}
 use Rattle.dv_cms.specs.Types.{encapsulated, signed_data, signer_identifier, signer_info}

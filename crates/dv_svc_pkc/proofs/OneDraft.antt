@@ -10,16 +10,12 @@ use Rattle.dv_path.specs.Anchors.{Anchored}
 use Rattle.dv_path.specs.Paths.{Search}
 use Rattle.dv_path.proofs.OnePath.{one_path}
 use Rattle.dv_draft.specs.Types.{draft}
-use Rattle.dv_svc_pkc.specs.Drafts.{IsPkc, pkc_of, time_of}
-use Rattle.dv_svc_pkc.specs.Outcomes.{IsOutcome, IsWhen, search_of}
+use Rattle.dv_parts.specs.Moments.{time_of}
+use Rattle.dv_parts.proofs.MomentLemmas.{one_when}
+use Rattle.dv_svc_pkc.specs.Drafts.{IsPkc, pkc_of}
+use Rattle.dv_svc_pkc.specs.Outcomes.{IsOutcome, search_of}
 
--- the moment of validation is one
-one_when : (time : Option (ValueOf request_time)) (moment a b : ℕ) → IsWhen time moment a → IsWhen time moment b → a ≡ b
-one_when None moment a b p q = p ∙ sym q
-one_when (Some (inl text)) moment a b p q = same_text a b p.0 q.0 (sym p.1 ∙ q.1)
-one_when (Some (inr token)) moment a b p q = p ∙ sym q
-
--- so is what is found of a target
+-- what is found of a target is one
 one_outcome : (s : Search) (a b : Option (List ℕ)) → IsOutcome s a → IsOutcome s b → a ≡ b
 one_outcome s None None p q = refl
 one_outcome s None (Some path) p q = absurd (p path q.1.is)

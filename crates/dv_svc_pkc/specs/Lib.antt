@@ -1,5 +1,4 @@
 pub mod Above
-pub mod Answered
 pub mod Certificates
 pub mod Drafts
 pub mod Entries

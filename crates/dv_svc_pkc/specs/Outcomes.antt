@@ -1,10 +1,7 @@
 -- What validation finds of a target (RFC 3029 2.4).
-use Rattle.std.specs.Prelude.{◌≡◌, ◌≤◌, ◌+◌, ◌*◌, ℕ, is_some, List, length, map, option_map, Option, Some, None}
-use Rattle.std.proofs.Common.{inl, inr}
+use Rattle.std.specs.Prelude.{◌+◌, ◌*◌, ℕ, is_some, List, length, map, option_map, Option, Some, None}
 use Rattle.dv_schema.specs.Schema.{FieldsOf, ValueOf}
-use Rattle.dv_time.specs.Text.{last_second}
-use Rattle.dv_time.specs.Views.{view_moment}
-use Rattle.dv_request.specs.Types.{path_fields, request_time, target_chain}
+use Rattle.dv_request.specs.Types.{path_fields, target_chain}
 use Rattle.dv_x509.specs.Types.{certificate_fields}
 use Rattle.dv_path.specs.Anchors.{Anchored}
 use Rattle.dv_path.specs.Demands.{Demand, policies_in}
@@ -28,12 +25,6 @@ search_of anchors when t = record { bag = bag_of t; target = 0; anchors = anchor
 abbrev pub IsOutcome : Search → Option (List ℕ) → Type 0
 IsOutcome s None = (path : List ℕ) → ¬ IsPath s path
 IsOutcome s (Some path) = (anchor : ℕ) × IsChosen s path anchor
-
--- The moment of validation: the one that the request names (RFC 3029 7.3), and else that of service. A token names none.
-abbrev pub IsWhen : Option (ValueOf request_time) → ℕ → ℕ → Type 0
-IsWhen None moment when = when ≡ moment
-IsWhen (Some (inl text)) moment when = (when ≤ last_second) × (text ≡ view_moment when)
-IsWhen (Some (inr token)) moment when = when ≡ moment
 
 -- at most how many signatures are verified for a target, where there are so many anchors: one for each pair of a certificate and one that may
 -- have issued it

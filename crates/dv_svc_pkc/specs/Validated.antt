@@ -1,15 +1,12 @@
 -- What the code keeps of targets that were validated.
-use Rattle.std.specs.Prelude.{◌≡◌, ℕ, Bool, false, is_some, List, map, Option, Some, All}
+use Rattle.std.specs.Prelude.{◌≡◌, ℕ, Bool, is_some, List, map, Option, Some, All}
 use Rattle.std.specs.List.{flat_map, list_all}
-use Rattle.sha2.specs.Sha256.{sha256}
 use Rattle.dv_schema.specs.Schema.{ValueOf, spelling}
-use Rattle.dv_time.specs.Views.{view_moment}
-use Rattle.dv_names.specs.declared.digest.DigestKind.TheVariants.{Sha256}
 use Rattle.dv_request.specs.TargetView.{view_target}
-use Rattle.dv_request.specs.Types.{dvcs_request, request_information, target_chain}
+use Rattle.dv_request.specs.Types.{dvcs_request, target_chain}
 use Rattle.dv_path.specs.Anchors.{Anchored}
-use Rattle.dv_draft.specs.Parts.{imprint_of}
 use Rattle.dv_draft.specs.Types.{draft}
+use Rattle.dv_parts.specs.Drafts.{draft_with, imprint_by_server}
 use Rattle.dv_svc_pkc.specs.declared.entry.Finding.{Finding}
 use Rattle.dv_svc_pkc.specs.Above.{IsAbove}
 use Rattle.dv_svc_pkc.specs.Entries.{entry_with, granted_if}
@@ -38,16 +35,5 @@ are_granted findings = list_all (λ f. is_some f.above) findings
 
 -- the draft for a request whose data are these octets, from what was found of its targets
 abbrev pub draft_from : ValueOf dvcs_request → List ℕ → List Finding → ℕ → Option (List ℕ) → Option (List ℕ) → ValueOf draft
-draft_from request certs findings moment policy signers = (
-  spelling request_information request.0,
-  (
-    imprint_of Sha256 false (sha256 certs),
-    (
-      view_moment moment,
-      (
-        Some (granted_if (are_granted findings)),
-        (policy, (signers, (Some (entries_in findings), tt))),
-      ),
-    ),
-  ),
-)
+draft_from request certs findings moment policy signers =
+    draft_with request (imprint_by_server certs) moment (Some (granted_if (are_granted findings))) policy signers (Some (entries_in findings))

@@ -7,7 +7,7 @@
 //! granted exactly where a path leads from it to a trust anchor, its entry has the certificates of the chosen path, and at most
 //! so many signatures are verified as the definitions allow.
 //!
-//! What it stands on: `dv_draft` and `dv_request`, the paths of `dv_path`, and the digests of `sha2`.
+//! What it stands on: `dv_draft` and `dv_request`, the paths of `dv_path`, and what the services share, `dv_parts`.
 #![tactic(auto)]
 
 mod certificates;

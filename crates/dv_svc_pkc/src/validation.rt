@@ -1,16 +1,15 @@
 //! The validation of targets: for each the path that is chosen.
 
-ghost use Rattle.std.specs.Prelude.{◌≡◌, ◌<◌, ◌≤◌, ◌+◌, All, IfOk, IsTrue, None, Some, length, map, option_map, slice_get, sum_by};
+ghost use Rattle.std.specs.Prelude.{◌≡◌, ◌<◌, ◌≤◌, ◌+◌, All, IfOk, IsTrue, None, Some, length, map, slice_get, sum_by};
 ghost use Rattle.std.specs.List.{list_all};
 ghost use Rattle.dv_schema.specs.Schema.{ValueOf};
 ghost use Rattle.dv_request.specs.DataView.{count_of, targets_of};
-ghost use Rattle.dv_request.specs.Information.{view_request_time};
 ghost use Rattle.dv_request.specs.TargetView.{view_target};
 ghost use Rattle.dv_request.specs.Types.{target_chain};
 ghost use Rattle.dv_path.specs.Members.{member_of};
 ghost use Rattle.dv_svc_pkc.specs.Certificates.{is_certificate, pkc_failure, target_failure};
 ghost use Rattle.dv_svc_pkc.specs.Entries.{above as above_in};
-ghost use Rattle.dv_svc_pkc.specs.Outcomes.{IsWhen, checks_of};
+ghost use Rattle.dv_svc_pkc.specs.Outcomes.{checks_of};
 ghost use Rattle.dv_svc_pkc.specs.Above.{IsAbove};
 ghost use Rattle.dv_svc_pkc.specs.Slices.{octets_if, octets_of};
 ghost use Rattle.dv_svc_pkc.specs.Validated.{AreFindings, IsFinding};
@@ -19,23 +18,10 @@ use crate::certificates::{CERTIFICATE, certificates_of};
 use crate::entry::Finding;
 use dv_lms::Steps;
 use dv_path::{Bag, BagFault, Trust, find_path};
-use dv_request::{Request, RequestInfo, RequestTime, TargetChain};
+use dv_request::{Request, TargetChain};
 use dv_time::Moment;
 use std::alloc::{AllocError, Global};
 use std::sync::ledger::Ledger;
-
-/// The moment of validation: the one that the request names, and else that of service.
-pub(crate) fn validation_moment(info: &RequestInfo<'_>, moment: Moment) -> Moment
-    ensures { IsWhen (option_map view_request_time info.now.time) moment result }
-{
-    match &info.time {
-        Some(RequestTime::At(when)) => {
-            let _seconds = when.seconds();
-            *when
-        }
-        Some(RequestTime::Token(_)) | None => moment,
-    }
-}
 
 /// What validation at this moment finds of the targets of a request that is checked, in order.
 pub(crate) fn validated<'a, L: Ledger>(

@@ -1,22 +1,13 @@
 -- What the services of possession (RFC 3029 2.1 and 2.2) answer.
 use Rattle.std.specs.Prelude.{ℕ, Bool, true, false, List, Option, Some, None, if◌then◌else◌}
 use Rattle.std.proofs.Common.{inl, inr}
-use Rattle.sha2.specs.Sha256.{sha256}
-use Rattle.dv_schema.specs.Schema.{ValueOf, spelling}
-use Rattle.dv_time.specs.Views.{view_moment}
+use Rattle.dv_schema.specs.Schema.{ValueOf}
 use Rattle.dv_names.specs.declared.digest.DigestKind.{DigestKind}
-use Rattle.dv_names.specs.declared.digest.DigestKind.TheVariants.{Sha256}
 use Rattle.dv_names.specs.Digest.{kind_of}
 use Rattle.dv_names.specs.Types.{digest_info}
-use Rattle.dv_request.specs.Types.{data_of_request, dvcs_request, request_information}
-use Rattle.dv_draft.specs.Parts.{imprint_of}
-use Rattle.dv_draft.specs.Types.{draft, has_length, imprint}
-
--- the draft for a request with this imprint, at a moment, under the policy of the server, with the signers of the request where it is
--- signed: its information as it stands, and neither a status nor targets
-abbrev pub draft_with : ValueOf dvcs_request → ValueOf imprint → ℕ → Option (List ℕ) → Option (List ℕ) → ValueOf draft
-draft_with request imprint moment policy signers =
-    (spelling request_information request.0, (imprint, (view_moment moment, (None, (policy, (signers, (None, tt)))))))
+use Rattle.dv_request.specs.Types.{data_of_request, dvcs_request}
+use Rattle.dv_draft.specs.Types.{draft, has_length}
+use Rattle.dv_parts.specs.Drafts.{draft_with, imprint_by_server}
 
 -- the octets of a message; none where the data are none
 abbrev pub message_in : ValueOf data_of_request → Option (List ℕ)
@@ -31,7 +22,7 @@ claim_in (inr (inr targets)) = None
 
 -- Possession of data (cpd): the imprint is the SHA-256 digest of the message's octets.
 abbrev pub cpd_of : ValueOf dvcs_request → List ℕ → ℕ → Option (List ℕ) → Option (List ℕ) → ValueOf draft
-cpd_of request message moment policy signers = draft_with request (imprint_of Sha256 false (sha256 message)) moment policy signers
+cpd_of request message moment policy signers = draft_with request (imprint_by_server message) moment None policy signers None
 
 -- there is no algorithm
 abbrev pub is_unknown : Option DigestKind → Bool
@@ -45,4 +36,4 @@ claim_failure claim =
     if is_unknown (kind_of claim.0) then Some 0 else if has_length (kind_of claim.0) claim.1.0 then None else Some 5
 
 abbrev pub ccpd_of : ValueOf dvcs_request → ValueOf digest_info → ℕ → Option (List ℕ) → Option (List ℕ) → ValueOf draft
-ccpd_of request claim moment policy signers = draft_with request claim moment policy signers
+ccpd_of request claim moment policy signers = draft_with request claim moment None policy signers None

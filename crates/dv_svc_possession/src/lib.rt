@@ -7,7 +7,7 @@
 //! What it promises: the drafts are exactly those of the definitions, and a claim is refused exactly where its algorithm
 //! isn't known or its digest hasn't the algorithm's length.
 //!
-//! What it stands on: `dv_draft` and `dv_request`, and the digests of `sha2`.
+//! What it stands on: `dv_draft`, `dv_request`, and what the services share, `dv_parts`.
 #![tactic(auto)]
 
 mod possession;

@@ -2,7 +2,6 @@
 
 ghost use Rattle.std.specs.Prelude.{◌≡◌, ◌<◌, ◌^◌, ℕ, List, None, Some, Ok, IfOk, IfSome, IsOkAnd, option_map, length, false};
 ghost use Rattle.std.specs.Option.{option_copied};
-ghost use Rattle.sha2.specs.Sha256.{sha256};
 ghost use Rattle.dv_names.specs.Digest.{kind_of, length_of};
 ghost use Rattle.dv_names.specs.Views.{view_digest};
 ghost use Rattle.dv_names.specs.declared.digest.DigestKind.TheVariants.{Sha256 as Sha256Kind};
@@ -10,17 +9,16 @@ ghost use Rattle.dv_draft.specs.Parts.{imprint_of, view_imprint};
 ghost use Rattle.dv_draft.specs.Views.{view_draft};
 ghost use Rattle.dv_request.specs.DataView.{view_data};
 ghost use Rattle.dv_request.specs.RequestView.{view_request};
-ghost use Rattle.dv_svc_possession.specs.Possession.{ccpd_of, claim_failure, claim_in, cpd_of, draft_with, message_in};
+ghost use Rattle.dv_svc_possession.specs.Possession.{ccpd_of, claim_failure, claim_in, cpd_of, message_in};
 ghost use Rattle.dv_draft.specs.Signers.{AreSigners};
-ghost use Rattle.dv_svc_possession.specs.Answered.{IsAnswer};
+ghost use Rattle.dv_parts.specs.Answered.{IsAnswer};
 
-use dv_asn1::Octets;
 use dv_draft::{Answer, Draft, Imprint, Server};
 use dv_names::{DigestInfo, DigestKind, digest_kind};
+use dv_parts::{Found, copied, drafted, imprint_by_server};
 use dv_request::{Data, Request};
 use dv_status::failure::{BAD_ALG, BAD_DATA_FORMAT};
 use dv_time::Moment;
-use sha2::{Digest, Sha256};
 use std::alloc::{AllocError, Global};
 
 /// The draft for a request for possession of data at a moment: its imprint is the SHA-256 digest of the message. `signers` are
@@ -39,8 +37,8 @@ pub fn answer_cpd(
 {
     match &request.matter {
         Data::Message(message) => {
-            let imprint = message_imprint(alloc, message)?;
-            drafted(alloc, request, imprint, moment, server, signers)
+            let imprint = imprint_by_server(alloc, message)?;
+            drafted(alloc, request, found(imprint), moment, server, signers)
         }
         Data::Imprint(_) | Data::Certs { .. } => Err(AllocError),
     }
@@ -59,7 +57,7 @@ pub fn answer_ccpd(
     requires claim { ∥ ((c : _) × (claim_in (view_data request.now.matter) ≡ Some c)) ∥₁ }
     requires signers { IfSome (option_copied signers) AreSigners }
     ensures { IfOk result (λ a. (c : _) → claim_in (view_data request.now.matter) ≡ Some c
-        → IsAnswer a (claim_failure c) (ccpd_of (view_request request.now) c moment server.now.policy (option_copied signers.entry))) }
+        → IsAnswer a (claim_failure c) (λ d. d ≡ ccpd_of (view_request request.now) c moment server.now.policy (option_copied signers.entry))) }
 {
     match &request.matter {
         Data::Imprint(claim) => answer_claim(alloc, request, claim, moment, server, signers),
@@ -78,7 +76,7 @@ fn answer_claim(
 ) -> Result<Answer, AllocError>
     requires { IfSome (option_copied signers) AreSigners }
     ensures { IfOk result (λ a. IsAnswer a (claim_failure (view_digest claim.now))
-        (ccpd_of (view_request request.now) (view_digest claim.now) moment server.now.policy (option_copied signers.entry))) }
+        (λ d. d ≡ ccpd_of (view_request request.now) (view_digest claim.now) moment server.now.policy (option_copied signers.entry))) }
 {
     let Some(kind) = digest_kind(&claim.alg) else {
         return Ok(Answer::Notice { bit: BAD_ALG });
@@ -89,7 +87,7 @@ fn answer_claim(
         });
     }
     let imprint = claim_imprint(alloc, claim, kind)?;
-    let draft = drafted(alloc, request, imprint, moment, server, signers)?;
+    let draft = drafted(alloc, request, found(imprint), moment, server, signers)?;
     Ok(Answer::Draft(draft))
 }
 
@@ -106,73 +104,17 @@ fn claim_imprint(
     Ok(Imprint {
         kind,
         with_null: claim.alg.params.is_some(),
-        digest: octets_of(alloc, claim.digest)?,
+        digest: copied(alloc, claim.digest)?,
     })
 }
 
-/// The imprint of a message by SHA-256, without parameters.
-fn message_imprint(alloc: Global, message: &[u8]) -> Result<Imprint, AllocError>
-    ensures { IfOk result (λ i. view_imprint i ≡ imprint_of Sha256Kind false (sha256 message.now)) }
+/// What these services find: an imprint, and neither a status nor entries.
+fn found(imprint: Imprint) -> Found
+    ensures { result ≡ record { imprint = imprint; status = None; certs = None } }
 {
-    let digest = Sha256::digest(message);
-    Ok(Imprint {
-        kind: DigestKind::Sha256,
-        with_null: false,
-        digest: octets_of(alloc, &digest)?,
-    })
-}
-
-/// The draft for a request with this imprint, without a status and without targets.
-fn drafted(
-    alloc: Global,
-    request: &Request<'_>,
-    imprint: Imprint,
-    moment: Moment,
-    server: &Server,
-    signers: Option<&[u8]>,
-) -> Result<Draft, AllocError>
-    requires { IfSome (option_copied signers) AreSigners }
-    ensures { IfOk result (λ d. view_draft d
-        ≡ draft_with (view_request request.now) (view_imprint imprint) moment server.now.policy (option_copied signers.entry)) }
-{
-    let _seconds = moment.seconds();
-    let info = octets_of(alloc, request.info.raw)?;
-    let policy = copy_of(alloc, server.policy.as_ref())?;
-    let req_signature = part_of(alloc, signers)?;
-    Ok(Draft {
-        info,
+    Found {
         imprint,
-        time: moment,
         status: None,
-        policy,
-        req_signature,
         certs: None,
-    })
-}
-
-/// A copy of octets.
-fn octets_of(alloc: Global, octets: &[u8]) -> Result<Octets, AllocError>
-    ensures { IfOk result (λ o. o ≡ octets.now) }
-{
-    Ok(Octets::new(octets.to_vec(alloc)?))
-}
-
-/// A copy of octets, where they are there.
-fn part_of(alloc: Global, octets: Option<&[u8]>) -> Result<Option<Octets>, AllocError>
-    ensures { IfOk result (λ o. o ≡ option_copied octets.entry) }
-{
-    match octets {
-        None => Ok(None),
-        Some(octets) => Ok(Some(octets_of(alloc, octets)?)),
-    }
-}
-
-/// A copy of octets that are owned, where they are there.
-fn copy_of(alloc: Global, octets: Option<&Octets>) -> Result<Option<Octets>, AllocError>
-    ensures { IfOk result (λ o. o ≡ option_copied octets.entry) }
-{
-    match octets {
-        None => Ok(None),
-        Some(octets) => Ok(Some(octets_of(alloc, octets.as_slice())?)),
     }
 }

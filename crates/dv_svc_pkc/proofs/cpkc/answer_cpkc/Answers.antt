@@ -1,4 +1,4 @@
-use Rattle.std.proofs.Common.{◌≡◌, ◌∙◌, ℕ, List, Option, None, ap, map, sym, subst}
+use Rattle.std.proofs.Common.{◌≡◌, ◌∙◌, ℕ, List, Option, None, ap, map, refl, sym, subst}
 use Rattle.std.specs.Option.{option_copied}
 use Rattle.std.proofs.Math.Logic.{∥∥₁_elim}
 use Rattle.dv_request.specs.DataView.{targets_of, view_data}
@@ -16,8 +16,8 @@ use Rattle.dv_svc_pkc.proofs.Drafted.{is_pkc, not_some, some_same}
 use Rattle.dv_svc_pkc.proofs.Requested.{some_target}
 use Rattle.dv_svc_pkc.proofs.cpkc.answer_cpkc.Goals as goal
 
-pub drafted-requires-clause-some : goal.drafted-requires-clause-some
-drafted-requires-clause-some g c =
+pub found-requires-clause-some : goal.found-requires-clause-some
+found-requires-clause-some g c =
     let r = c.args.request.now in
     let a = subst (λ (d : Data). AreFindings c.args.trust.now c.validation_moment-when.result (targets_of d) c.in_ok-findings-in-Certs.findings.items) c.in-Certs.is c.in_ok-findings-in-Certs.ensures.found in
     let some = some_target r c.in-Certs.raw c.in-Certs.targets c.in-Certs.is in
@@ -39,7 +39,10 @@ returns-clause-answer g c = λ certs is.
     let policy : Option (List ℕ) = c.args.server.now.policy in
     let signers : Option (List ℕ) = option_copied c.args.signers in
     let d = c.in_ok-draft-in-Certs.draft in
-    let from = c.in_ok-draft-in-Certs.ensures ∙ (ap (λ (x : List ℕ). draft_from (view_request r) x c.deref.result.now c.args.moment policy signers) same
+    let f = c.in_ok-found-in-Certs.found in
+    let parts = c.in_ok-found-in-Certs.ensures in
+    let made = c.in_ok-draft-in-Certs.ensures ∙ rw (parts.imprint, parts.status, parts.certs) refl in
+    let from = made ∙ (ap (λ (x : List ℕ). draft_from (view_request r) x c.deref.result.now c.args.moment policy signers) same
     ∙ ap (λ (x : List Finding). draft_from (view_request r) certs x c.args.moment policy signers) c.deref.ensures.value) in
     let pkc = is_pkc (view_request r) certs c.args.trust.now c.args.moment c.validation_moment-when.result policy signers fs (view_draft d) c.validation_moment-when.ensures a from in
     let none = not_some c.in_ok-bit-in-Certs.field-0 c.in_default.not-Some in

@@ -1,6 +1,7 @@
--- What a request has that its draft takes over.
-use Rattle.std.proofs.Common.{◌≡◌, ◌<◌, ◌++◌, ◌∷◌, ◌∙◌, ℕ, Bool, Option, Some, None, List, [], length, is_some, refl, ap, arith}
+-- An imprint that is a copy of a claim.
+use Rattle.std.proofs.Common.{◌≡◌, ◌<◌, ◌++◌, ◌∷◌, ◌∙◌, ℕ, Bool, Option, Some, None, List, [], length, is_some, Result, Ok, Err, refl, ap, arith}
 use Rattle.std.specs.Borrow.{Bor}
+use Rattle.std.specs.Prelude.{IfOk}
 use Rattle.std.specs.Option.{option_copied}
 use Rattle.std.proofs.lemmas.List.{length-append}
 use Rattle.std.proofs.Math.Logic.{∥∥₁_elim, ∥∥₁_prop}
@@ -21,19 +22,6 @@ use Rattle.dv_request.specs.Types.{data_of_request, request_fields, request_info
 use Rattle.dv_draft.specs.Parts.{imprint_of}
 use Rattle.dv_draft.proofs.MadeLemmas.{imprint_is}
 
--- its information fits where a draft has it
-pub information_fits : (r : Request) → ∥ Fits request_information 31 (view_info r.info) ∥₁
-information_fits r = ∥∥₁_elim r.spelled ∥∥₁_prop (λ f. ∣ fits_more request_information 29 31 (view_info r.info) (omega arith) f.2.0 ∣₁)
-
--- and is shorter than the request
-pub information_short : (r : Request) → length (spelling request_information (view_info r.info)) < 4294967296
-information_short r =
-    let a : List ℕ = spelling request_information (view_info r.info) in
-    let b : List ℕ = spelling data_of_request (view_data r.matter) in
-    let d : List ℕ = spelled_if (spelling (raw general_name)) (option_copied r.transaction) in
-    let whole : List ℕ = contents request_fields (view_request r) in
-    omega (arith, r.short, length-append (48 ∷ length_octets (length whole)) whole, length-append a (b ++ (d ++ [])))
-
 -- a copy of what is there is there
 copied_some : (o : Option (Bor (List ℕ))) → is_some o ≡ is_some (option_copied o)
 copied_some None = refl
@@ -46,3 +34,8 @@ copy_is claim k b digest named flag same =
     let o : Option (List ℕ) = option_copied claim.alg.params in
     ap (λ (x : Bool). imprint_of k x digest) (flag ∙ copied_some claim.alg.params)
     ∙ (ap (λ (x : List ℕ). imprint_of k (is_some o) x) same ∙ imprint_is claim.alg.oid.octets.now o claim.digest.now k named)
+
+-- what holds of an Ok holds where more follows from it
+pub if_ok : {A E : Type 0} {P Q : A → Type 0} (r : Result A E) → ((a : A) → P a → Q a) → IfOk r P → IfOk r Q
+if_ok (Ok a) f h = f a h
+if_ok (Err e) f h = tt
