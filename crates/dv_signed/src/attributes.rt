@@ -166,3 +166,6 @@ pub(crate) fn are_right(attributes: &Cursor<'_>, content_type: &[u8], certificat
         && find_value(attributes, &MESSAGE_DIGEST).is_some()
         && names_its_certificate(attributes, certificate)
 }
+
+#[cfg(test)]
+mod tests;

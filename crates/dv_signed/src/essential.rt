@@ -166,3 +166,6 @@ fn hash_kind(id: &CertificateId<'_>) -> Option<DigestKind>
         Some(algorithm) => digest_kind(&algorithm),
     }
 }
+
+#[cfg(test)]
+mod tests;
