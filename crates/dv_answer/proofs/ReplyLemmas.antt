@@ -14,9 +14,8 @@ use Rattle.dv_draft.specs.declared.draft.Draft.{Draft}
 use Rattle.dv_draft.specs.declared.server.Server.{Server}
 use Rattle.dv_draft.specs.Views.{view_draft}
 use Rattle.dv_path.specs.Anchors.{Anchored}
-use Rattle.dv_svc_pkc.specs.Answered.{IsAnswer as IsValidated}
 use Rattle.dv_svc_pkc.specs.Drafts.{IsPkc}
-use Rattle.dv_svc_possession.specs.Answered.{IsAnswer}
+use Rattle.dv_parts.specs.Answered.{IsAnswer}
 use Rattle.dv_svc_possession.specs.Possession.{ccpd_of, cpd_of}
 use Rattle.dv_answer.specs.declared.reply.Reply.{Reply}
 use Rattle.dv_answer.specs.Messages.{IsContentInfo, IsRequestMessage}
@@ -122,20 +121,20 @@ module _ (anchors : List Anchored) (moment : ℕ) (policy : Option (List ℕ)) (
       subst (λ (o : Option ℕ). IsAnswerWith o v anchors moment policy (Notice 14)) (sym some) refl
 
   -- the answer to a claim
-  claim_told : (claim : ValueOf digest_info) (answer : Answer) (failure : Option ℕ) → v.1.0 ≡ inr (inl claim) → IsAnswer answer failure (ccpd_of v claim moment policy None) → IsAnswerWith failure v anchors moment policy answer
+  claim_told : (claim : ValueOf digest_info) (answer : Answer) (failure : Option ℕ) → v.1.0 ≡ inr (inl claim) → IsAnswer answer failure (λ d. d ≡ ccpd_of v claim moment policy None) → IsAnswerWith failure v anchors moment policy answer
   claim_told claim (Drafted d) None same h = subst (λ (x : ValueOf data_of_request). IsDraftFor x v anchors moment policy (Drafted d)) (sym same) h
   claim_told claim (Drafted d) (Some bit) same h = absurd h
   claim_told claim (Notice bit) None same h = absurd h
   claim_told claim (Notice bit) (Some b) same h = ap (λ (n : ℕ). Notice n) h
 
   pub claim_answered : (claim : ValueOf digest_info) (answer : Answer) → v.1.0 ≡ inr (inl claim)
-      → IsAnswer answer (last_of (inr (inl claim)) valid) (ccpd_of v claim moment policy None) → IsAnswerWith (last_of v.1.0 valid) v anchors moment policy answer
+      → IsAnswer answer (last_of (inr (inl claim)) valid) (λ d. d ≡ ccpd_of v claim moment policy None) → IsAnswerWith (last_of v.1.0 valid) v anchors moment policy answer
   claim_answered claim answer same h =
       claim_told claim answer (last_of v.1.0 valid) same
-      (subst (λ (x : ValueOf data_of_request). IsAnswer answer (last_of x valid) (ccpd_of v claim moment policy None)) (sym same) h)
+      (subst (λ (x : ValueOf data_of_request). IsAnswer answer (last_of x valid) (λ d. d ≡ ccpd_of v claim moment policy None)) (sym same) h)
 
   -- the answer to a request for the validation of certificates
-  certs_told : (certs : List ℕ) (answer : Answer) (failure : Option ℕ) → v.1.0 ≡ inr (inr certs) → IsValidated answer failure (IsPkc v certs anchors moment policy None)
+  certs_told : (certs : List ℕ) (answer : Answer) (failure : Option ℕ) → v.1.0 ≡ inr (inr certs) → IsAnswer answer failure (IsPkc v certs anchors moment policy None)
       → IsAnswerWith failure v anchors moment policy answer
   certs_told certs (Drafted d) None same h = subst (λ (x : ValueOf data_of_request). IsDraftFor x v anchors moment policy (Drafted d)) (sym same) h
   certs_told certs (Drafted d) (Some bit) same h = absurd h
@@ -143,10 +142,10 @@ module _ (anchors : List Anchored) (moment : ℕ) (policy : Option (List ℕ)) (
   certs_told certs (Notice bit) (Some b) same h = ap (λ (n : ℕ). Notice n) h
 
   pub certs_answered : (certs : List ℕ) (answer : Answer) → v.1.0 ≡ inr (inr certs)
-      → IsValidated answer (last_of (inr (inr certs)) valid) (IsPkc v certs anchors moment policy None) → IsAnswerWith (last_of v.1.0 valid) v anchors moment policy answer
+      → IsAnswer answer (last_of (inr (inr certs)) valid) (IsPkc v certs anchors moment policy None) → IsAnswerWith (last_of v.1.0 valid) v anchors moment policy answer
   certs_answered certs answer same h =
       certs_told certs answer (last_of v.1.0 valid) same
-      (subst (λ (x : ValueOf data_of_request). IsValidated answer (last_of x valid) (IsPkc v certs anchors moment policy None)) (sym same) h)
+      (subst (λ (x : ValueOf data_of_request). IsAnswer answer (last_of x valid) (IsPkc v certs anchors moment policy None)) (sym same) h)
 
 -- ---- how many signatures are verified
 

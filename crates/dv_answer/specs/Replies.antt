@@ -12,9 +12,8 @@ use Rattle.dv_draft.specs.declared.server.Server.{Server}
 use Rattle.dv_draft.specs.Types.{draft}
 use Rattle.dv_draft.specs.Views.{view_draft}
 use Rattle.dv_path.specs.Anchors.{Anchored}
-use Rattle.dv_svc_pkc.specs.Answered.{IsAnswer as IsValidated}
 use Rattle.dv_svc_pkc.specs.Drafts.{IsPkc}
-use Rattle.dv_svc_possession.specs.Answered.{IsAnswer}
+use Rattle.dv_parts.specs.Answered.{IsAnswer}
 use Rattle.dv_svc_possession.specs.Possession.{ccpd_of, cpd_of}
 use Rattle.dv_answer.specs.declared.reply.Reply.{Reply}
 use Rattle.dv_answer.specs.Messages.{IsContentInfo, IsRequestMessage}
@@ -24,9 +23,9 @@ use Rattle.dv_answer.specs.Steps.{Office, failure_at}
 -- The answer is the draft of the service that takes these data: of possession of a message, of a claim by a digest, or of the validation
 -- of targets by the anchors. The request has no signers.
 abbrev pub IsDraftFor : ValueOf data_of_request → ValueOf dvcs_request → List Anchored → ℕ → Option (List ℕ) → Answer → Type 0
-IsDraftFor (inl message) v anchors moment policy answer = IsAnswer answer None (cpd_of v message moment policy None)
-IsDraftFor (inr (inl claim)) v anchors moment policy answer = IsAnswer answer None (ccpd_of v claim moment policy None)
-IsDraftFor (inr (inr certs)) v anchors moment policy answer = IsValidated answer None (IsPkc v certs anchors moment policy None)
+IsDraftFor (inl message) v anchors moment policy answer = IsAnswer answer None (λ d. d ≡ cpd_of v message moment policy None)
+IsDraftFor (inr (inl claim)) v anchors moment policy answer = IsAnswer answer None (λ d. d ≡ ccpd_of v claim moment policy None)
+IsDraftFor (inr (inr certs)) v anchors moment policy answer = IsAnswer answer None (IsPkc v certs anchors moment policy None)
 
 -- it is the notice of the failure where there is one, and else the draft
 abbrev pub IsAnswerWith : Option ℕ → ValueOf dvcs_request → List Anchored → ℕ → Option (List ℕ) → Answer → Type 0

@@ -8,9 +8,8 @@ ghost use Rattle.dv_request.specs.Request.{request_data_type};
 ghost use Rattle.dv_request.specs.Types.{dvcs_request};
 ghost use Rattle.dv_path.specs.Anchors.{Anchored};
 ghost use Rattle.dv_draft.specs.Types.{draft as draft_type};
-ghost use Rattle.dv_svc_pkc.specs.Answered.{IsAnswer as IsValidated};
 ghost use Rattle.dv_svc_pkc.specs.Drafts.{IsPkc};
-ghost use Rattle.dv_svc_possession.specs.Answered.{IsAnswer};
+ghost use Rattle.dv_parts.specs.Answered.{IsAnswer};
 ghost use Rattle.dv_answer.specs.Checks.{checks_for, Checks, ChecksContent, ChecksMessage};
 ghost use Rattle.dv_answer.specs.Replies.{IsAnswerOf, IsAnswerWith, IsContentReply, IsReply, SaysSame};
 ghost use Rattle.dv_answer.specs.Offices.{view_office};
@@ -227,11 +226,11 @@ fn draft<L: Ledger>(
 
 /// The answer, but no draft where the server's own certificate doesn't hold.
 fn if_valid(answer: Answer, is_valid: bool) -> Answer
-    ensures one { (failure : Option ℕ) → (expected : ValueOf draft_type) → IsAnswer answer failure expected
-        → IsAnswer result (first_of (failure ∷ (if is_valid then None else Some 14) ∷ [])) expected }
+    ensures one { (failure : Option ℕ) → (expected : ValueOf draft_type) → IsAnswer answer failure (λ d. d ≡ expected)
+        → IsAnswer result (first_of (failure ∷ (if is_valid then None else Some 14) ∷ [])) (λ d. d ≡ expected) }
     ensures validated { (failure : Option ℕ) (v : ValueOf dvcs_request) (certs : List ℕ) (anchors : List Anchored) (moment : ℕ) (policy : Option (List ℕ))
-        → IsValidated answer failure (IsPkc v certs anchors moment policy None)
-        → IsValidated result (first_of (failure ∷ (if is_valid then None else Some 14) ∷ [])) (IsPkc v certs anchors moment policy None) }
+        → IsAnswer answer failure (IsPkc v certs anchors moment policy None)
+        → IsAnswer result (first_of (failure ∷ (if is_valid then None else Some 14) ∷ [])) (IsPkc v certs anchors moment policy None) }
 {
     if is_valid {
         return answer;
