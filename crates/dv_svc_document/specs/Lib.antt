@@ -1,0 +1,5 @@
+pub mod Bags
+pub mod Documents
+pub mod Entries
+pub mod Named
+pub mod Results

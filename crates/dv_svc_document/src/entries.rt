@@ -1,0 +1,1 @@
+//! The list of entries in a certificate of service.
