@@ -1,3 +1,4 @@
 pub mod DraftLemmas
+pub mod Flattened
 pub mod MomentLemmas
 pub mod RequestLemmas

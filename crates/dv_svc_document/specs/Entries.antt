@@ -1,5 +1,5 @@
 -- What the certificate of service says of a signer of a document (RFC 3029 2.2, 9.1).
-use Rattle.std.specs.Prelude.{ℕ, true, List, [], ◌∷◌, ◌++◌, drop, map, option_map, slice_index_or, Option, Some, None}
+use Rattle.std.specs.Prelude.{◌≤◌, ℕ, true, List, [], ◌∷◌, ◌++◌, drop, length, map, option_map, slice_index_or, sum_by, unwrap_or, Option, Some, None}
 use Rattle.std.proofs.Common.{inr, inl}
 use Rattle.dv_schema.specs.Schema.{FieldsOf, ValueOf, contents, sequence_of}
 use Rattle.dv_status.specs.Types.{status_fields}
@@ -41,3 +41,10 @@ entry_with (Some octets) above bit = (certificate_token octets, (Some (chain_wit
 abbrev pub entry_of : List (List ℕ) → SignerResult → ValueOf target_chain
 entry_of certificates r =
     entry_with (option_map (λ position. slice_index_or certificates position []) r.certificate) (above certificates (positions_of r.path)) r.bit
+
+-- ---- how long they are
+
+-- at most one certificate and five above it, each of at most 8,192 octets
+pub record AreShort (certificate : Option (List ℕ)) (above : List (List ℕ)) : Type 0 where
+  pub own : length (unwrap_or certificate []) ≤ 8192
+  pub others : sum_by length above ≤ 40960

@@ -1,5 +1,7 @@
 pub mod Bags
 pub mod Documents
+pub mod Drafts
 pub mod Entries
+pub mod Kept
 pub mod Named
 pub mod Results

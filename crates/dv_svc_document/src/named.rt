@@ -28,5 +28,9 @@ pub(crate) fn named(signer: &SignerInfo<'_>, bag: &Bag) -> Option<u32>
 fn names(signer: &SignerInfo<'_>, certificate: &Certificate<'_>) -> bool
     ensures { result ≡ is_named_by (view_signer signer.now) (view_certificate certificate.now) }
 {
-    signer.names(&certificate.issuer, certificate.serial, certificate.key_id())
+    signer.names(
+        &certificate.issuer,
+        certificate.serial,
+        certificate.key_id(),
+    )
 }
