@@ -1,2 +1,3 @@
+mod BagLemmas
 mod EntryLemmas
 mod Positions

@@ -1,6 +1,7 @@
 //! The service of signed documents (RFC 3029 2.2): `vsd` validates a signed document.
 #![tactic(auto)]
 
+mod bag;
 mod entries;
 mod entry;
 mod fault;
@@ -8,5 +9,6 @@ mod judge;
 mod named;
 mod result;
 
+pub use bag::document_bag;
 pub use fault::DocumentBag;
 pub use result::SignerResult;
