@@ -1,3 +1,4 @@
 mod BagLemmas
+mod DocumentLemmas
 mod EntryLemmas
 mod Positions

@@ -2,6 +2,7 @@
 #![tactic(auto)]
 
 mod bag;
+mod document;
 mod entries;
 mod entry;
 mod fault;
