@@ -2,3 +2,4 @@ mod BagLemmas
 mod DocumentLemmas
 mod EntryLemmas
 mod Positions
+mod ResultLemmas

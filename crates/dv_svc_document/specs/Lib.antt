@@ -1,4 +1,5 @@
 pub mod Bags
+pub mod Bits
 pub mod Documents
 pub mod Drafts
 pub mod Entries

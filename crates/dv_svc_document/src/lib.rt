@@ -12,4 +12,5 @@ mod result;
 
 pub use bag::document_bag;
 pub use fault::DocumentBag;
+pub use judge::judge_signer;
 pub use result::SignerResult;
