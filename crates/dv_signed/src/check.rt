@@ -174,3 +174,6 @@ pub fn signer_check<L: Ledger>(
         Err(SignerFault::Signature)
     }
 }
+
+#[cfg(test)]
+mod tests;
