@@ -32,3 +32,9 @@ abbrev pub IsBagCause : List (List ℕ) → DocumentBag → Type 0
 IsBagCause certificates TooMany = 16 < length certificates
 IsBagCause certificates (Bad index fault) = (length certificates ≤ 16) × IsFirstBad certificates index fault
 IsBagCause certificates Memory = Unit {0}
+
+-- what a fault says of the one at an index, whose octets are these
+abbrev pub IsBadAt : ℕ → List ℕ → DocumentBag → Type 0
+IsBadAt i octets TooMany = ⊥
+IsBadAt i octets (Bad index fault) = (index ≡ i) × (certificate_in 48 octets ≡ Err fault)
+IsBadAt i octets Memory = Unit {0}

@@ -1,8 +1,10 @@
 //! The documents that are read.
 
-ghost use Rattle.std.specs.Prelude.{◌≡◌, ◌<◌, ◌^◌, IfOk, MatchOption, length, option_map};
+ghost use Rattle.std.specs.Prelude.{◌≡◌, ◌<◌, ◌^◌, All, IfOk, MatchOption, length, option_map};
 ghost use Rattle.dv_schema.specs.Schema.{ValueOf};
 ghost use Rattle.dv_cms.specs.Types.{signed_data as signed_type};
+ghost use Rattle.dv_request.specs.Materials.{IsCertificate as FitsMessage};
+ghost use Rattle.dv_signed.specs.Certificates.{certificates_of};
 ghost use Rattle.dv_signed.specs.Messages.{IsSignedMessage};
 ghost use Rattle.dv_signed.specs.SignedView.{view_signed};
 ghost use Rattle.dv_svc_document.specs.Bags.{bag_of};
@@ -26,6 +28,7 @@ pub(crate) struct Document<'a> {
     pub(crate) bag: Bag,
     ghost readable: { IsReadable (view_signed signed) },
     ghost bagged: { bag ≡ bag_of (view_signed signed) },
+    ghost fit: { ∥ All FitsMessage (certificates_of (view_signed signed)) ∥₁ },
 }
 
 impl<'a> Document<'a> {
