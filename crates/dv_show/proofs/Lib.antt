@@ -1,3 +1,5 @@
+pub mod ContentLemmas
+pub mod FailLemmas
 pub mod LengthLemmas
 pub mod LineLemmas
 pub mod ShowLemmas
