@@ -1,7 +1,9 @@
 -- One value of a file, as it is read.
-use Rattle.std.proofs.Common.{◌≡◌, ◌∙◌, ◌+◌, ◌<◌, length, ◌≤◌, ◌++◌, ℕ, List, Ok, Result, refl, sym, ap, subst, arith}
+use Rattle.std.proofs.Common.{◌≡◌, ◌∙◌, ◌+◌, ◌<◌, length, ◌≤◌, ◌++◌, ℕ, List, Ok, Result, true, refl, sym, ap, subst, arith}
 use Rattle.std.specs.Prelude.{IfSome, IsOkAnd, Option, Some}
 use Rattle.std.proofs.lemmas.List.{length-append}
+use Rattle.std.specs.Str.{bytes_eq}
+use Rattle.std.proofs.lemmas.Slice.Eq.{bytes_eq-Decides}
 use Rattle.dv_schema.specs.declared.refusal.Der.{Der}
 use Rattle.dv_schema.specs.Schema.{ValueOf, spelling}
 use Rattle.dv_schema.specs.Fits.{Fits}
@@ -13,6 +15,10 @@ use Rattle.dv_cms.specs.Views.{view_content_info}
 use Rattle.dv_show.specs.declared.shown.Shown.{Shown}
 use Rattle.dv_show.specs.Values.{IsShown, IsValueOf}
 use Rattle.dv_show.proofs.LengthLemmas.{message_long}
+
+-- a test of a type that held
+pub same_type : (a b : List ℕ) → true ≡ bytes_eq a b → a ≡ b
+same_type a b e = (bytes_eq-Decides a b).0 (sym e)
 
 -- a decoder that began at a copy of a cursor
 pub from_start : (r : Result ContentInfo Der) (copy start new : Spot) → copy ≡ start → Decodes content_info view_content_info r copy new → Decodes content_info view_content_info r start new
