@@ -89,8 +89,8 @@ line_for_notice least = codes "notice " ++ word_of_notice least ++ 10 ∷ []
 -- the service, the serial number, the moment, the imprint and the status of a certificate of service
 abbrev pub line_for_certificate : CertInfo → List ℕ
 line_for_certificate info =
-    codes "certificate " ++ name_of_service info.info.service ++ codes " serial " ++ encode_lower info.serial.now ++ codes " time " ++ text_of info.time
-    ++ codes " imprint " ++ word_of_imprint (view_digest info.imprint) ++ codes " status " ++ word_of_status (option_map (λ s. s.status) info.status) ++ 10 ∷ []
+    (codes "certificate " ++ name_of_service info.info.service) ++ (codes " serial " ++ encode_lower info.serial.now) ++ (codes " time " ++ text_of info.time)
+    ++ (codes " imprint " ++ word_of_imprint (view_digest info.imprint)) ++ (codes " status " ++ word_of_status (option_map (λ s. s.status) info.status) ++ 10 ∷ [])
 
 -- the line for a value
 abbrev pub line_for : Shown → List ℕ

@@ -1,18 +1,19 @@
 //! The line for a value.
 
-ghost use Rattle.std.specs.Prelude.{◌≡◌, ◌++◌, codes, option_map, IsTrue, OnOk};
+ghost use Rattle.std.specs.Prelude.{◌≡◌, ◌++◌, ◌∷◌, [], codes, option_map, IsTrue, OnOk};
 ghost use Rattle.std.specs.String.{string_bytes};
 ghost use Rattle.hex.specs.Hex.{encode_lower};
 ghost use Rattle.dv_schema.specs.Rules.{is_oid};
 ghost use Rattle.dv_time.specs.Text.{text_of};
 ghost use Rattle.dv_names.specs.Views.{view_algorithm, view_digest};
-ghost use Rattle.dv_show.specs.Lines.{line_for, line_for_certificate, line_for_notice, line_for_request, word_of_algorithm, word_of_identifier, word_of_imprint, word_of_status};
+ghost use Rattle.dv_show.specs.Lines.{line_for, line_for_certificate, line_for_notice, line_for_request, name_of_service, word_of_algorithm, word_of_identifier, word_of_imprint, word_of_status};
 
 use crate::names::{digest_name, failure_name, service_name, status_name};
 use crate::shown::Shown;
 use dv_names::{AlgId, DigestInfo, DisplayError, digest_kind, display};
 use dv_request::Service;
 use dv_response::CertInfo;
+use dv_status::StatusInfo;
 use dv_time::Moment;
 use std::alloc::{AllocError, Global};
 
@@ -64,33 +65,36 @@ fn push_certificate(
 ) -> Result<(), AllocError>
     ensures { OnOk result (string_bytes text.new ≡ string_bytes text.old ++ line_for_certificate info.now) }
 {
-    let name = service_name(info.info.service);
-    write!(text, "certificate {name} serial ")?;
-    push_hex(alloc, text, info.serial)?;
-    text.push_str(" time ")?;
+    push_service(text, info.info.service)?;
+    push_serial(alloc, text, info.serial)?;
     push_time(text, info.time)?;
-    text.push_str(" imprint ")?;
     push_imprint(alloc, text, &info.imprint)?;
-    text.push_str(" status ")?;
-    push_status(text, info.status.map(|s| s.status))?;
-    text.push('\n')
+    push_status(text, &info.status)
 }
 
-/// Puts octets in hexadecimal, in lower case, at the end of the text.
-fn push_hex(alloc: Global, text: &mut String, octets: &[u8]) -> Result<(), AllocError>
-    ensures { OnOk result (string_bytes text.new ≡ string_bytes text.old ++ encode_lower octets.now) }
+/// Puts the service of a certificate at the end of the text.
+fn push_service(text: &mut String, service: Service) -> Result<(), AllocError>
+    ensures { OnOk result (string_bytes text.new ≡ string_bytes text.old ++ (codes "certificate " ++ name_of_service service)) }
 {
-    let digits = hex::encode(alloc, octets)?;
-    text.push_str(&digits)
+    let name = service_name(service);
+    write!(text, "certificate {name}")
+}
+
+/// Puts a serial number, given by its contents octets, at the end of the text.
+fn push_serial(alloc: Global, text: &mut String, serial: &[u8]) -> Result<(), AllocError>
+    ensures { OnOk result (string_bytes text.new ≡ string_bytes text.old ++ (codes " serial " ++ encode_lower serial.now)) }
+{
+    text.push_str(" serial ")?;
+    push_hex(alloc, text, serial)
 }
 
 /// Puts a moment at the end of the text, as `YYYYMMDDHHMMSSZ`.
 fn push_time(text: &mut String, time: Moment) -> Result<(), AllocError>
-    ensures { OnOk result (string_bytes text.new ≡ string_bytes text.old ++ text_of time) }
+    ensures { OnOk result (string_bytes text.new ≡ string_bytes text.old ++ (codes " time " ++ text_of time)) }
 {
     let octets = dv_time::text(time);
     match str::from_utf8(&octets) {
-        Ok(digits) => text.push_str(digits),
+        Ok(digits) => write!(text, " time {digits}"),
         Err(_) => unreachable!(),
     }
 }
@@ -101,11 +105,20 @@ fn push_imprint(
     text: &mut String,
     imprint: &DigestInfo<'_>,
 ) -> Result<(), AllocError>
-    ensures { OnOk result (string_bytes text.new ≡ string_bytes text.old ++ word_of_imprint (view_digest imprint.now)) }
+    ensures { OnOk result (string_bytes text.new ≡ string_bytes text.old ++ (codes " imprint " ++ word_of_imprint (view_digest imprint.now))) }
 {
+    text.push_str(" imprint ")?;
     push_algorithm(alloc, text, &imprint.alg)?;
     text.push(' ')?;
     push_hex(alloc, text, imprint.digest)
+}
+
+/// Puts octets in hexadecimal, in lower case, at the end of the text.
+fn push_hex(alloc: Global, text: &mut String, octets: &[u8]) -> Result<(), AllocError>
+    ensures { OnOk result (string_bytes text.new ≡ string_bytes text.old ++ encode_lower octets.now) }
+{
+    let digits = hex::encode(alloc, octets)?;
+    text.push_str(&digits)
 }
 
 /// Puts an algorithm at the end of the text: the name of a known digest algorithm, or the identifier.
@@ -134,15 +147,18 @@ fn push_identifier(alloc: Global, text: &mut String, octets: &[u8]) -> Result<()
     }
 }
 
-/// Puts a status at the end of the text: its name, its number where it has none, or that there is no status.
-fn push_status(text: &mut String, status: Option<u8>) -> Result<(), AllocError>
-    ensures { OnOk result (string_bytes text.new ≡ string_bytes text.old ++ word_of_status status) }
+/// Puts the end of a certificate's line at the end of the text: the name of the status, its number where it has none, or that
+/// there is no status.
+fn push_status(text: &mut String, status: &Option<StatusInfo<'_>>) -> Result<(), AllocError>
+    ensures { OnOk result (string_bytes text.new
+        ≡ string_bytes text.old ++ (codes " status " ++ word_of_status (option_map (λ s. s.status) status.now) ++ 10 ∷ [])) }
 {
-    let Some(status) = status else {
-        return text.push_str("none");
+    let Some(info) = status else {
+        return text.push_str(" status none\n");
     };
+    let status = info.status;
     match status_name(status) {
-        Some(name) => text.push_str(name),
-        None => write!(text, "other {status}"),
+        Some(name) => writeln!(text, " status {name}"),
+        None => writeln!(text, " status other {status}"),
     }
 }
