@@ -4,5 +4,7 @@ pub mod FailLemmas
 pub mod LengthLemmas
 pub mod LineLemmas
 pub mod ShowLemmas
+pub mod SizeLemmas
 pub mod TimeLemmas
 pub mod ValueLemmas
+pub mod WordLemmas

@@ -14,7 +14,7 @@ use Rattle.dv_cms.specs.Types.{content_info}
 use Rattle.dv_cms.specs.Views.{view_content_info}
 use Rattle.dv_show.specs.declared.shown.Shown.{Shown}
 use Rattle.dv_show.specs.Values.{IsShown, IsValueOf}
-use Rattle.dv_show.proofs.LengthLemmas.{message_long}
+use Rattle.dv_show.proofs.SizeLemmas.{message_long}
 
 -- a test of a type that held
 pub same_type : (a b : List ℕ) → true ≡ bytes_eq a b → a ≡ b

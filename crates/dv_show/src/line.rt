@@ -58,11 +58,7 @@ fn push_notice(text: &mut String, least: Option<u8>) -> Result<(), AllocError>
 }
 
 /// Puts the line for a certificate of service at the end of the text.
-fn push_certificate(
-    alloc: Global,
-    text: &mut String,
-    info: &CertInfo<'_>,
-) -> Result<(), AllocError>
+fn push_certificate(alloc: Global, text: &mut String, info: &CertInfo<'_>) -> Result<(), AllocError>
     ensures { OnOk result (string_bytes text.new ≡ string_bytes text.old ++ line_for_certificate info.now) }
 {
     push_service(text, info.info.service)?;
@@ -122,11 +118,7 @@ fn push_hex(alloc: Global, text: &mut String, octets: &[u8]) -> Result<(), Alloc
 }
 
 /// Puts an algorithm at the end of the text: the name of a known digest algorithm, or the identifier.
-fn push_algorithm(
-    alloc: Global,
-    text: &mut String,
-    algorithm: &AlgId<'_>,
-) -> Result<(), AllocError>
+fn push_algorithm(alloc: Global, text: &mut String, algorithm: &AlgId<'_>) -> Result<(), AllocError>
     ensures { OnOk result (string_bytes text.new ≡ string_bytes text.old ++ word_of_algorithm (view_algorithm algorithm.now)) }
 {
     match digest_kind(algorithm) {

@@ -38,7 +38,6 @@ pub fn show_values(alloc: Global, octets: &[u8]) -> Result<String, ShowFault>
     ensures refused { IfErr result (λ fault. fault ≢ ShowFault.Memory → (text : List ℕ) → ¬ ShowOf octets.now text) }
 {
     let mut rest = Cursor::new(octets);
-    let _octets = rest.fork();
     let mut text = String::new(alloc);
     'values: loop {
         let value = match next_value(&mut rest) {
