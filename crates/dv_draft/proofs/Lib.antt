@@ -15,3 +15,4 @@ pub mod StatusLemmas
 pub mod Statuses
 mod Suches
 mod Told
+pub mod WellCertificates

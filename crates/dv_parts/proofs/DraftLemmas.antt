@@ -62,7 +62,7 @@ status_plain n (Some b) le known =
     (f, ap is_plain read ∙ one_or_none (Some b) known)
 
 -- of few octets
-status_few : (n : ℕ) (bit : Option ℕ) → n ≤ 6 → length (spelling plain_status (status_of n bit)) ≤ 44
+pub status_few : (n : ℕ) (bit : Option ℕ) → n ≤ 6 → length (spelling plain_status (status_of n bit)) ≤ 44
 status_few n None le =
     let a = serial_few n (omega (arith, le)) in
     let number : List ℕ = tlv 2 (integer_octets n) in

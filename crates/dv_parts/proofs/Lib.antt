@@ -1,3 +1,5 @@
 pub mod DraftLemmas
+pub mod Elements
+pub mod Flattened
 pub mod MomentLemmas
 pub mod RequestLemmas

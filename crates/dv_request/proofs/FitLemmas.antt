@@ -42,7 +42,7 @@ among_one t u e =
     ]
 
 -- a certificate under its tag as a token
-certificate_fits : (n : ℕ) (c : List ℕ) → Fits (whole_certificate 48) n c → Fits token n (certificate_token c)
+pub certificate_fits : (n : ℕ) (c : List ℕ) → Fits (whole_certificate 48) n c → Fits token n (certificate_token c)
 certificate_fits n [] f = let e : (eqb 0 48 || false) ≡ true = f.1 in absurd cc
 certificate_fits n (t ∷ more) f = (retag n (t ∷ more) f.0 (among_one t 48 f.1), refl)
 

@@ -1,21 +1,12 @@
 -- Answers to requests, one after another.
 use Rattle.std.proofs.Common.{◌≡◌, ◌∙◌, ℕ, ◌+◌, zero, suc, ◌<◌, List, [], ◌∷◌, ◌++◌, length, map, take, drop, refl, sym, ap, subst, arith}
-use Rattle.std.proofs.Common.{get_or, Vec}
 use Rattle.std.specs.List.{concat, AllByRecursion}
 use Rattle.std.proofs.lemmas.List.{map-append}
 use Rattle.std.proofs.lemmas.List.Folds.{concat-append}
-use Rattle.std.specs.declared.alloc.Global.{Global}
-use Rattle.dv_asn1.specs.Lists.{lists_of}
 use Rattle.dv_session.specs.Issuing.{Book, Notary}
 use Rattle.dv_session.specs.Serving.{Answered, Answers, IsAnswer, pieces_of, told_for}
 
 -- ---- lists of requests
-
--- what stands from an index on begins with the item there
-pub drop_item : (xs : List (Vec ℕ Global)) (i : ℕ) (x : Vec ℕ Global) → i < length xs → x ≡ get_or xs i x → drop i (lists_of xs) ≡ x.items ∷ drop (suc i) (lists_of xs)
-drop_item [] i x lt is = absurd (omega arith)
-drop_item (y ∷ xs) zero x lt is = ap (λ (v : Vec ℕ Global). v.items ∷ lists_of xs) (sym is)
-drop_item (y ∷ xs) (suc i) x lt is = drop_item xs i x (omega arith) is
 
 -- what holds of each member holds of the one at an index
 pub holds_at : (P : List ℕ → Type 0) (ys : List (List ℕ)) (i : ℕ) (y : List ℕ) (rest : List (List ℕ)) → AllByRecursion P ys → drop i ys ≡ y ∷ rest → P y

@@ -26,9 +26,9 @@ use Rattle.dv_draft.specs.Views.{view_draft}
 use Rattle.dv_cert.specs.Certificates.{MayLeave, sealed_with}
 use Rattle.dv_path.specs.Anchors.{Anchored}
 use Rattle.dv_session.specs.declared.issuing.Issued.{Issued}
-use Rattle.dv_session.specs.declared.reply.Reply.{Reply}
+use Rattle.dv_answer.specs.declared.reply.Reply.{Reply}
 use Rattle.dv_session.specs.Issuing.{Book, Given, IsCertificateOf, IsGiven, bit_of_refusal, book_of, certified, entry_for, failed, full, notary_of, notice_for, refused, view_issued}
-use Rattle.dv_session.specs.Replies.{IsReply}
+use Rattle.dv_answer.specs.Replies.{IsReply}
 use Rattle.dv_session.proofs.IssuingLemmas.{last_leaves, record_certificate}
 
 -- a notice, where the reply is one

@@ -37,11 +37,11 @@ use Rattle.dv_cert.proofs.LeaveLemmas.{notice_leaves}
 use Rattle.dv_register.specs.declared.refusals.Reserve.{Reserve}
 use Rattle.dv_register.specs.declared.refusals.Reserve.TheVariants.{Full, Shut, Fault}
 use Rattle.dv_session.specs.declared.issuing.Issued.{Issued}
-use Rattle.dv_session.specs.declared.reply.Reply.{Reply}
-use Rattle.dv_session.specs.Messages.{is_token, takes, version_of}
+use Rattle.dv_answer.specs.declared.reply.Reply.{Reply}
+use Rattle.dv_answer.specs.Messages.{is_token, takes, version_of}
 use Rattle.dv_session.specs.Issuing.{Given, bit_of_refusal, notice_for, view_issued}
-use Rattle.dv_session.specs.Replies.{IsAnswerWith, IsDraftFor, IsReply, signed_message, request_message, other_octets}
-use Rattle.dv_session.specs.Steps.{Office, data_failure, failure_at, first_of, form_failure, has_critical, extensions_of, is_another_policy, is_after, is_built, is_for_others, is_timed, is_valid_at, office_failure, policy_of, service_of, servers_of, time_failure, time_of}
+use Rattle.dv_answer.specs.Replies.{IsAnswerWith, IsDraftFor, IsReply, signed_message, request_message, other_octets}
+use Rattle.dv_answer.specs.Steps.{Office, data_failure, failure_at, first_of, form_failure, has_critical, extensions_of, is_another_policy, is_after, is_built, is_for_others, is_timed, is_valid_at, office_failure, policy_of, service_of, servers_of, time_failure, time_of}
 
 -- ---- notices
 

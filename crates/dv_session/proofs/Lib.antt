@@ -8,11 +8,6 @@ pub mod SendingLemmas
 pub mod AnswerLemmas
 pub mod AnsweringLemmas
 pub mod RunLemmas
-pub mod MessageLemmas
-pub mod StepLemmas
-pub mod PolicyLemmas
-pub mod ReplyLemmas
-pub mod OneReply
 pub mod RecordLengths
 pub mod IssuingLemmas
 pub mod GivenLemmas

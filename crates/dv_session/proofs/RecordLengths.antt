@@ -39,10 +39,10 @@ use Rattle.dv_svc_pkc.specs.Drafts.{IsPkc, pkc_of}
 use Rattle.dv_svc_pkc.specs.Entries.{entries_of, granted_if}
 use Rattle.dv_svc_pkc.proofs.Lengths.{certs_few}
 use Rattle.dv_svc_possession.specs.Possession.{cpd_of}
-use Rattle.dv_session.specs.declared.reply.Reply.{Reply}
-use Rattle.dv_session.specs.Messages.{IsRequestMessage}
-use Rattle.dv_session.specs.Replies.{IsAnswerOf, IsAnswerWith, IsDraftFor, IsReply, signed_message, request_message, other_octets}
-use Rattle.dv_session.specs.Steps.{data_failure, failure_at, first_of, form_failure, office_failure, time_failure}
+use Rattle.dv_answer.specs.declared.reply.Reply.{Reply}
+use Rattle.dv_answer.specs.Messages.{IsRequestMessage}
+use Rattle.dv_answer.specs.Replies.{IsAnswerOf, IsAnswerWith, IsDraftFor, IsReply, signed_message, request_message, other_octets}
+use Rattle.dv_answer.specs.Steps.{data_failure, failure_at, first_of, form_failure, office_failure, time_failure}
 
 -- ---- certificates
 

@@ -13,8 +13,8 @@ use Rattle.dv_path.specs.Anchors.{Anchored}
 use Rattle.dv_register.specs.declared.refusals.Reserve.{Reserve}
 use Rattle.dv_register.specs.declared.refusals.Reserve.TheVariants.{Full, Shut, Fault}
 use Rattle.dv_session.specs.declared.issuing.Issued.{Issued}
-use Rattle.dv_session.specs.declared.reply.Reply.{Reply}
-use Rattle.dv_session.specs.Replies.{IsReply}
+use Rattle.dv_answer.specs.declared.reply.Reply.{Reply}
+use Rattle.dv_answer.specs.Replies.{IsReply}
 
 -- What stays the same while a notary serves: its certificates and its policy, its trust anchors, its key, the serial number of the first
 -- record of its register, and how many records that may hold.

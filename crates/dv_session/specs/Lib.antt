@@ -5,9 +5,4 @@ pub mod Feeding
 pub mod Splitting
 pub mod Issuing
 pub mod Sending
-pub mod Messages
 pub mod Serving
-pub mod Steps
-pub mod Offices
-pub mod Checks
-pub mod Replies

@@ -15,9 +15,9 @@ ghost use Rattle.dv_cert.specs.Notice.{notice_of};
 ghost use Rattle.dv_cert.specs.Notices.{IsTransaction};
 ghost use Rattle.dv_cert.specs.Rooms.{IsRoomOf};
 ghost use Rattle.dv_session.specs.Issuing.{book_of, bit_of_refusal, entry_for, IsGiven, notary_of, notice_for, view_issued};
-ghost use Rattle.dv_session.specs.Replies.{IsReply};
+ghost use Rattle.dv_answer.specs.Replies.{IsReply};
 
-use crate::reply::{Reply, answer};
+use dv_answer::{Reply, answer};
 use dv_asn1::Writer;
 use dv_cert::{NotaryRule, Room, notice_bytes, notice_len};
 use dv_draft::reading_laws::records_are_read_again;
@@ -58,7 +58,7 @@ pub struct Issued {
 
 /// What the octets of a message get at the moment of service.
 ///
-/// Where [`crate::answer`] makes a notice it is this notice, and the register stays as it is. For a draft a record is
+/// Where [`answer`] makes a notice it is this notice, and the register stays as it is. For a draft a record is
 /// reserved, and what is given is the certificate of that record, signed with its leaf; systemFailure where the register is
 /// shut or the reservation meets a fault; systemUnavail where each leaf of the key has its record.
 ///
@@ -247,4 +247,4 @@ fn issue<V: Station>(
 }
 
 #[cfg(test)]
-mod tests;
+pub(crate) mod tests;

@@ -1,3 +1,7 @@
+pub mod AttributeLists
+pub mod CertificateIds
 pub mod CertificateLemmas
 pub mod PlaceLemmas
+pub mod Sameness
 pub mod SetLemmas
+pub mod SignerAttributes

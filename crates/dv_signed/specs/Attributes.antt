@@ -1,7 +1,8 @@
 -- The signed attributes of a signer (RFC 5652 5.3, 11; RFC 5035 3).
-use Rattle.std.specs.Prelude.{ℕ, Bool, true, false, ◌&&◌, List, [], ◌∷◌, map, Option, Some, None}
+use Rattle.std.specs.Prelude.{◌≡◌, ℕ, Bool, true, false, ◌&&◌, List, [], ◌∷◌, length, map, Option, Some, None, Ok}
 use Rattle.dv_schema.specs.Octets.{are_apart, same_octets}
 use Rattle.dv_schema.specs.Schema.{ValueOf}
+use Rattle.dv_schema.specs.Reading.{Spot, all_at, read}
 use Rattle.dv_schema.specs.Tlv.{tlv}
 use Rattle.dv_schema.specs.Types.{any}
 use Rattle.dv_names.specs.declared.digest.DigestKind.{DigestKind}
@@ -80,3 +81,7 @@ are_right_in type certificate (Some octets) = are_right type certificate (attrib
 abbrev pub has_digest_in : DigestKind → List ℕ → Option (List ℕ) → Bool
 has_digest_in kind content None = true
 has_digest_in kind content (Some octets) = are_octets (message_digest_of (attributes_in octets)) (tlv 4 (digest_by kind content))
+
+-- what is left are these attributes, one after another
+abbrev pub AreAttributes : Spot → List (ValueOf attribute) → Type 0
+AreAttributes p attributes = all_at (read attribute) (length p.rest) p ≡ Ok attributes

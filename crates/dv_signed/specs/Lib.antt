@@ -1,8 +1,10 @@
+pub mod AttributeView
 pub mod Attributes
 pub mod Certificates
 pub mod Check
 pub mod Essential
 pub mod Fields
+pub mod IdView
 pub mod Kinds
 pub mod Messages
 pub mod Places

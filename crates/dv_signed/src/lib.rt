@@ -9,16 +9,22 @@
 //! `IsFault` in specs/Check.antt, and at most one signature is verified for it. No call takes memory.
 //!
 //! What it stands on: `dv_cms` for the types of signers, `dv_names` for names and algorithms, `dv_members` for lists,
-//! `dv_lms` for signatures, `sha2` for digests, and `dv_asn1` over the definitions of `dv_schema`.
+//! `dv_x509` for the algorithm of keys, `dv_lms` for signatures, `sha2` for digests, and `dv_asn1` over the definitions of `dv_schema`.
 #![tactic(auto)]
 
+mod attributes;
 mod certificates;
+mod check;
+mod digest;
 mod encapsulated;
+mod essential;
 mod fault;
+mod header;
 mod sid;
 mod signed_data;
 mod signer;
 
+pub use check::signer_check;
 pub use fault::SignerFault;
 pub use sid::Sid;
 pub use signed_data::SignedData;

@@ -41,7 +41,7 @@ use Rattle.dv_svc_pkc.specs.Outcomes.{IsOutcome, search_of}
 use Rattle.dv_draft.specs.Signers.{AreSigners}
 use Rattle.dv_svc_pkc.specs.Slices.{octets_if}
 use Rattle.dv_svc_pkc.specs.Validated.{AreFindings, IsFinding, are_granted, draft_from, entries_in, entry_in}
-use Rattle.dv_svc_pkc.proofs.Flattened.{flat-map}
+use Rattle.dv_parts.proofs.Flattened.{flat-map}
 
 -- ---- the entries
 

@@ -12,7 +12,7 @@ use Rattle.dv_status.specs.Types.{status_info}
 use Rattle.dv_request.specs.Types.{path_input, target_chain, target_fields, token}
 use Rattle.dv_svc_pkc.specs.Entries.{certificate_token, entry_with, granted_if, status_token, tokens_with}
 use Rattle.dv_svc_pkc.specs.Slices.{octets_if, octets_of}
-use Rattle.dv_svc_pkc.proofs.Flattened.{flat-append, flat-map, length-flat}
+use Rattle.dv_parts.proofs.Flattened.{flat-append, flat-map, length-flat}
 
 -- the contents octets of the chain of an entry
 abbrev pub chain_with : Option (List (List ℕ)) → List ℕ

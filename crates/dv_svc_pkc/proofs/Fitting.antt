@@ -22,7 +22,7 @@ use Rattle.dv_svc_pkc.specs.Certificates.{certificate_of, certificates_of, is_ce
 use Rattle.dv_svc_pkc.specs.Entries.{above, certificate_token, entry_with, granted_if, status_token, tokens_with}
 use Rattle.dv_svc_pkc.specs.Outcomes.{IsOutcome, search_of}
 use Rattle.dv_svc_pkc.proofs.Entered.{chain_with, has_parts}
-use Rattle.dv_svc_pkc.proofs.Flattened.{flat-append}
+use Rattle.dv_parts.proofs.Flattened.{flat-append}
 
 -- ---- the certificates that are handed in
 

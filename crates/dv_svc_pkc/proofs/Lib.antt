@@ -2,7 +2,6 @@ mod Drafted
 mod Entered
 mod Failures
 mod Fitting
-mod Flattened
 mod Gained
 mod Gathered
 pub mod Lengths

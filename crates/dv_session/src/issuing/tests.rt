@@ -9,7 +9,7 @@ use dv_x509::{OwnParts, own_certificate as certificate_of, own_tbs};
 use std::test::Fail;
 
 /// A request for possession of abc.
-const CPD: [u8; 29] = [
+pub(crate) const CPD: [u8; 29] = [
     0x30, 0x1B, 0x06, 0x0B, 0x2A, 0x86, 0x48, 0x86, 0xF7, 0x0D, 0x01, 0x09, 0x10, 0x01, 0x07, 0xA0,
     0x0C, 0x30, 0x0A, 0x30, 0x03, 0x0A, 0x01, 0x01, 0x04, 0x03, 0x61, 0x62, 0x63,
 ];
@@ -58,7 +58,7 @@ const SYSTEM_UNAVAIL_INFO: [u8; 7] = [0x03, 0x05, 0x07, 0x00, 0x00, 0x00, 0x80];
 const SYSTEM_FAILURE_INFO: [u8; 7] = [0x03, 0x05, 0x06, 0x00, 0x00, 0x00, 0x40];
 
 /// The first second of 2025.
-const FROM: u64 = 1_735_689_600;
+pub(crate) const FROM: u64 = 1_735_689_600;
 
 /// The first second of 2026.
 const UNTIL: u64 = 1_767_225_600;
@@ -86,7 +86,7 @@ fn own_octets(alloc: Global, is_signed: bool) -> Result<Vec<u8>, AllocError> {
 }
 
 /// The server notary, which trusts itself, and its key of 32 leaves.
-fn desk(alloc: Global) -> Result<Desk, AllocError> {
+pub(crate) fn desk(alloc: Global) -> Result<Desk, AllocError> {
     let own = own_octets(alloc, true)?;
     let Ok(trust) = Trust::decode(alloc, &own) else {
         return Err(AllocError);

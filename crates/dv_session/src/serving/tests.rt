@@ -1,15 +1,25 @@
 //! Runs over inputs in memory. Each notice was worked out by hand from RFC 3029 9 and RFC 4210 5.2.3.
 
 use super::*;
-use crate::reply::tests::{CPD, FROM, SIGNED, VSD, server, trust};
-use dv_lms::{Height, Key};
+use crate::issuing::tests::{CPD, FROM, desk};
 use dv_outside_mem::{MemClock, MemSource, MemStation};
-use dv_register::SigningKey;
 use std::alloc::AllocError;
 use std::test::Fail;
 
 /// The first second of the year 10000.
 const PAST: u64 = 253_402_300_800;
+
+/// A request for the validation of a document, with the transactionIdentifier a, a dNSName.
+const VSD: [u8; 32] = [
+    0x30, 0x1E, 0x06, 0x0B, 0x2A, 0x86, 0x48, 0x86, 0xF7, 0x0D, 0x01, 0x09, 0x10, 0x01, 0x07, 0xA0,
+    0x0F, 0x30, 0x0D, 0x30, 0x03, 0x0A, 0x01, 0x02, 0x04, 0x03, 0x61, 0x62, 0x63, 0x82, 0x01, 0x61,
+];
+
+/// A signed message with an empty content.
+const SIGNED: [u8; 17] = [
+    0x30, 0x0F, 0x06, 0x09, 0x2A, 0x86, 0x48, 0x86, 0xF7, 0x0D, 0x01, 0x07, 0x02, 0xA0, 0x02, 0x30,
+    0x00,
+];
 
 /// The notice to the signed message: systemUnavail.
 const SIGNED_NOTICE: [u8; 31] = [
@@ -23,15 +33,6 @@ const VSD_NOTICE: [u8; 34] = [
     0x11, 0xA0, 0x0F, 0x30, 0x0A, 0x02, 0x01, 0x02, 0x03, 0x05, 0x07, 0x00, 0x00, 0x00, 0x80, 0x82,
     0x01, 0x61,
 ];
-
-/// The desk of the server notary.
-fn desk(alloc: Global) -> Result<Desk, AllocError> {
-    Ok(Desk {
-        server: server(alloc, None)?,
-        trust: trust(alloc)?,
-        key: SigningKey::new(Key::from_seed(alloc, Height::H5, [7; 16], [9; 32])?),
-    })
-}
 
 /// Which calls of the source, the clock and the station fail, by their numbers. Making the register takes the first three calls of
 /// the station.

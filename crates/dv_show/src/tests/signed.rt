@@ -82,13 +82,15 @@ fn certificate(
     serial: &[u8],
     more: &[u8],
 ) -> Result<Vec<u8>, AllocError> {
-    let length = (22 + imprint.len() + serial.len() + more.len()).min(84) as u8;
-    let mut octets = [0x30, length, 0x30, 0x03, 0x0A, 0x01, service].to_vec(alloc)?;
-    octets.extend_from_slice(imprint)?;
-    octets.extend_from_slice(serial)?;
-    octets.extend_from_slice(&[0x18, 0x0F])?;
-    octets.extend_from_slice(b"20250101000000Z")?;
-    octets.extend_from_slice(more)?;
+    let mut fields = [0x30, 0x03, 0x0A, 0x01, service].to_vec(alloc)?;
+    fields.extend_from_slice(imprint)?;
+    fields.extend_from_slice(serial)?;
+    fields.extend_from_slice(&[0x18, 0x0F])?;
+    fields.extend_from_slice(b"20250101000000Z")?;
+    fields.extend_from_slice(more)?;
+    let length = fields.len().min(84) as u8;
+    let mut octets = [0x30, length].to_vec(alloc)?;
+    octets.extend_from_slice(&fields)?;
     signed(alloc, RESPONSE, &octets)
 }
 

@@ -2,7 +2,8 @@ use Rattle.std.proofs.Common.{rules, ◌≡◌, ◌∙◌, ◌+◌, ◌∷◌, [
 use Rattle.dv_asn1.specs.Lists.{lists_of}
 use Rattle.dv_session.specs.Issuing.{notary_of}
 use Rattle.dv_session.specs.Requests.{IsRequest}
-use Rattle.dv_session.proofs.AnswerLemmas.{drop_item, holds_at, split_item, take_next}
+use Rattle.dv_answer.proofs.ListLemmas.{drop_item}
+use Rattle.dv_session.proofs.AnswerLemmas.{holds_at, split_item, take_next}
 use Rattle.dv_session.proofs.AnsweringLemmas.{answering_as, answering_more, answering_none, answering_stops, same_notary}
 use Rattle.dv_session.proofs.serving.answer_requests.Goals as goal
 

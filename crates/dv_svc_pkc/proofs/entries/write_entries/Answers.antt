@@ -5,7 +5,7 @@ use Rattle.dv_asn1.proofs.Written.{written_more}
 use Rattle.dv_request.specs.Types.{target_chain}
 use Rattle.dv_svc_pkc.specs.declared.entry.Finding.{Finding}
 use Rattle.dv_svc_pkc.specs.Validated.{entries_in, entry_in}
-use Rattle.dv_svc_pkc.proofs.Flattened.{flat_more, flat_room}
+use Rattle.dv_parts.proofs.Flattened.{flat_more, flat_room}
 use Rattle.dv_svc_pkc.proofs.entries.write_entries.Goals as goal
 
 pub write-requires : goal.write-requires

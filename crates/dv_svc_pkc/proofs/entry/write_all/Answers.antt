@@ -1,6 +1,6 @@
 use Rattle.std.proofs.Common.{List, [], ℕ, Bor, arith, get_or}
 use Rattle.std.proofs.lemmas.List.{get_or_default}
-use Rattle.dv_svc_pkc.proofs.Flattened.{flat_room}
+use Rattle.dv_parts.proofs.Flattened.{flat_room}
 use Rattle.dv_svc_pkc.proofs.entry.write_all.Goals as goal
 
 pub bytes-requires : goal.bytes-requires

@@ -4,7 +4,8 @@ use Rattle.dv_request.specs.DataView.{targets_of}
 use Rattle.dv_request.specs.TargetView.{view_target}
 use Rattle.dv_request.specs.Types.{target_chain}
 use Rattle.dv_svc_pkc.specs.Outcomes.{checks_of}
-use Rattle.dv_svc_pkc.proofs.Gained.{one_found, sum_one, sum_one_le, there}
+use Rattle.dv_parts.proofs.Elements.{sum_one, sum_one_le, there}
+use Rattle.dv_svc_pkc.proofs.Gained.{one_found}
 use Rattle.dv_svc_pkc.proofs.validation.validated.Goals as goal
 
 pub returns-in_err-finding-clause-steps : goal.returns-in_err-finding-clause-steps

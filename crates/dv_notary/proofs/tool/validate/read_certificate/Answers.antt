@@ -4,7 +4,8 @@ use Rattle.dv_request.specs.Materials.{IsCertificate as FitsRequest}
 use Rattle.dv_outside.specs.declared.shelf.ShelfRefusal.TheVariants.{TooLong}
 use Rattle.dv_x509.specs.View.{view_certificate}
 use Rattle.dv_notary.specs.declared.status.Status.TheVariants.{File}
-use Rattle.dv_notary.proofs.CertificateLemmas.{certificate_fits, long_file}
+use Rattle.dv_draft.proofs.WellCertificates.{certificate_fits}
+use Rattle.dv_notary.proofs.CertificateLemmas.{long_file}
 use Rattle.dv_notary.proofs.tool.validate.read_certificate.Goals as goal
 
 pub returns-in-Err-clause-none : goal.returns-in-Err-clause-none

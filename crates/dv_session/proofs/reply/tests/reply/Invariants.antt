@@ -1,5 +1,0 @@
-use Rattle.dv_session.proofs.reply.tests.reply.Given as goal
-
--- the ledger that counts the verifications of this reply
-abbrev pub ghosts-replied : goal.ghosts-replied
-ghosts-replied a = record { name = a.blank.name; parts = a.blank.parts }

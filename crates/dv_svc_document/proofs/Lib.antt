@@ -1,0 +1,5 @@
+mod BagLemmas
+mod DocumentLemmas
+mod EntryLemmas
+mod Positions
+mod ResultLemmas

@@ -1,0 +1,16 @@
+//! The service of signed documents (RFC 3029 2.2): `vsd` validates a signed document.
+#![tactic(auto)]
+
+mod bag;
+mod document;
+mod entries;
+mod entry;
+mod fault;
+mod judge;
+mod named;
+mod result;
+
+pub use bag::document_bag;
+pub use fault::DocumentBag;
+pub use judge::judge_signer;
+pub use result::SignerResult;
