@@ -1,4 +1,10 @@
+pub mod AlgorithmLemmas
+pub mod ContentLemmas
+pub mod FailLemmas
 pub mod LengthLemmas
 pub mod LineLemmas
 pub mod ShowLemmas
+pub mod SizeLemmas
+pub mod TimeLemmas
 pub mod ValueLemmas
+pub mod WordLemmas

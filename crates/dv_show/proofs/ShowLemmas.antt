@@ -2,8 +2,10 @@
 use Rattle.std.proofs.Common.{◌≡◌, ◌≢◌, ◌∙◌, ◌++◌, ◌<◌, ◌≤◌, ◌==◌, ◌∷◌, [], ℕ, length, arith, append_assoc, eqb-true, true, false, List, refl, sym, ap, subst, true≢false}
 use Rattle.std.proofs.lemmas.List.{append-nil, nil_from_length}
 use Rattle.dv_schema.specs.Reading.{Spot}
-use Rattle.dv_show.specs.declared.value.Shown.{Shown}
-use Rattle.dv_show.specs.Show.{AreShown, IsShown, line_for, octets_of_all, ShowOf, text_of_all, Values}
+use Rattle.dv_show.specs.declared.shown.Shown.{Shown}
+use Rattle.dv_show.specs.Lines.{line_for}
+use Rattle.dv_show.specs.Show.{AreShown, octets_of_all, ShowOf, text_of_all, Values}
+use Rattle.dv_show.specs.Values.{IsShown}
 
 -- The values before the rest were shown, and where the file is values one after another, so is the rest, which has one at least.
 pub record Showing (file : List ℕ) (rest : Spot) (text : List ℕ) : Type 0 where

@@ -1,9 +1,10 @@
-//! The names of services and of failure bits.
+//! The names of services, of failure bits, of statuses and of digest algorithms.
 
 ghost use Rattle.std.specs.Prelude.{◌≡◌};
 ghost use Rattle.std.specs.Option.{option_copied};
-ghost use Rattle.dv_show.specs.Show.{name_of_failure, name_of_service};
+ghost use Rattle.dv_show.specs.Lines.{name_of_digest, name_of_failure, name_of_service, name_of_status};
 
+use dv_names::DigestKind;
 use dv_request::Service;
 use dv_status::failure;
 
@@ -38,5 +39,28 @@ pub fn failure_name(bit: u8) -> Option<&'static str>
         failure::SYSTEM_UNAVAIL => Some("systemUnavail"),
         failure::SYSTEM_FAILURE => Some("systemFailure"),
         _ => None,
+    }
+}
+
+/// The name of a status (RFC 4210 5.2.3, PKIStatus); None where this project never gives the status.
+pub fn status_name(status: u8) -> Option<&'static str>
+    ensures { option_copied result ≡ name_of_status status }
+{
+    match status {
+        0 => Some("granted"),
+        1 => Some("grantedWithMods"),
+        2 => Some("rejection"),
+        _ => None,
+    }
+}
+
+/// The name of a digest algorithm: `sha256`, `sha384` or `sha512`.
+pub fn digest_name(kind: DigestKind) -> &'static str
+    ensures { result.now ≡ name_of_digest kind }
+{
+    match kind {
+        DigestKind::Sha256 => "sha256",
+        DigestKind::Sha384 => "sha384",
+        DigestKind::Sha512 => "sha512",
     }
 }

@@ -1,12 +1,12 @@
 //! The lines for the values of a file.
 
-ghost use Rattle.std.specs.Prelude.{◌≡◌, ◌≢◌, ◌<◌, ◌≤◌, ◌^◌, ◌++◌, List, ℕ, length, string_bytes, IfOk, IfErr, OnOk};
-ghost use Rattle.dv_show.specs.Show.{ShowOf, line_for, line_for_notice};
+ghost use Rattle.std.specs.Prelude.{◌≡◌, ◌≢◌, ◌<◌, ◌≤◌, ◌*◌, ◌^◌, List, ℕ, length, string_bytes, IfOk, IfErr};
+ghost use Rattle.dv_show.specs.Show.{ShowOf};
 
-use crate::names::{failure_name, service_name};
-use crate::value::{Shown, next_value};
+use crate::line::push_line;
+use crate::value::next_value;
 use dv_asn1::{Cursor, Der};
-use std::alloc::{AllocError, Global};
+use std::alloc::Global;
 
 /// Why a file's values aren't shown.
 #[derive(Clone, Copy, Debug, PartialEq, Eq)]
@@ -17,42 +17,24 @@ pub enum ShowFault {
     Memory,
 }
 
-/// Puts the line for a notice with this least failure bit at the end of the text.
-fn push_notice(text: &mut String, least: Option<u8>) -> Result<(), AllocError>
-    ensures { OnOk result (string_bytes text.new ≡ string_bytes text.old ++ line_for_notice least) }
-{
-    let Some(bit) = least else {
-        return text.push_str("notice none\n");
-    };
-    match failure_name(bit) {
-        Some(name) => writeln!(text, "notice {name}"),
-        None => writeln!(text, "notice bit {bit}"),
-    }
-}
-
-/// Puts the line for a value at the end of the text.
-fn push_line(text: &mut String, value: Shown) -> Result<(), AllocError>
-    ensures { OnOk result (string_bytes text.new ≡ string_bytes text.old ++ line_for value) }
-{
-    match value {
-        Shown::Request(service) => {
-            let name = service_name(service);
-            writeln!(text, "request {name}")
-        }
-        Shown::Notice(least) => push_notice(text, least),
-    }
-}
-
-/// A line for each value in the octets, which are values one after another: `request SERVICE`, or `notice NAME` with the name of
-/// the least failure bit that is set, `bit N` for one without a name, or `none`. Octet 0A ends each line. The text has no more
-/// octets than the file.
+/// A line for each value in the octets, which are values one after another; octet 0A ends each line:
 ///
-/// A refusal exactly where there is no value, or one that is neither an unsigned request nor a notice; its place counts on in the
-/// octets.
+/// - `request SERVICE`, and ` signed` after it where the request is in signed data;
+/// - `notice NAME`, with the name of the least failure bit that is set, `bit N` for one without a name, or `none`;
+/// - `certificate SERVICE serial HEX time TIME imprint ALG HEX status STATUS`: the contents octets of the serial number in lower
+///   case, the moment as `YYYYMMDDHHMMSSZ`, the algorithm as `sha256`, `sha384`, `sha512` or dotted (`wide` where an arc is past
+///   2^64 - 1), the digest, and the status as `none`, `granted`, `grantedWithMods`, `rejection` or `other N`.
+///
+/// The text has at most four times as many octets as the file.
+///
+/// A refusal exactly where there is no value, or one that is none of these. Its place counts on in the octets, also inside signed
+/// data: a message is read whole first, and then what it holds. `Value` at the type of a message that is none of the three, and at
+/// the type of a signed content that is neither of the two; `Value` at an absent signed content; and `Tag` at a certificate of
+/// service that isn't signed.
 pub fn show_values(alloc: Global, octets: &[u8]) -> Result<String, ShowFault>
     requires { length octets.now < 2 ^ 32 }
     ensures shown { IfOk result (λ text. ShowOf octets.now (string_bytes text)) }
-    ensures short { IfOk result (λ text. length (string_bytes text) ≤ length octets.now) }
+    ensures short { IfOk result (λ text. length (string_bytes text) ≤ 4 * length octets.now) }
     ensures refused { IfErr result (λ fault. fault ≢ ShowFault.Memory → (text : List ℕ) → ¬ ShowOf octets.now text) }
 {
     let mut rest = Cursor::new(octets);
@@ -62,7 +44,7 @@ pub fn show_values(alloc: Global, octets: &[u8]) -> Result<String, ShowFault>
             Ok(value) => value,
             Err(refusal) => return Err(ShowFault::Refused(refusal)),
         };
-        match push_line(&mut text, value) {
+        match push_line(alloc, &mut text, &value) {
             Ok(()) => {}
             Err(_) => return Err(ShowFault::Memory),
         }

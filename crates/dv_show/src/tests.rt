@@ -1,5 +1,7 @@
 //! Files and their lines, worked out by hand from RFC 3029, RFC 4210 5.2.3 and X.690.
 
+mod signed;
+
 use super::*;
 use dv_asn1::{Der, Why};
 use std::alloc::{AllocError, Global};
@@ -52,9 +54,9 @@ const CERTIFICATE: [u8; 38] = [
     0x18, 0x0F, 0x32, 0x30, 0x32, 0x35, 0x30, 0x31, 0x30, 0x31, 0x30, 0x30, 0x30, 0x30, 0x30, 0x30, 0x5A,
 ];
 
-/// A ContentInfo of type id-signedData whose content is an empty SEQUENCE.
-const SIGNED: [u8; 17] = [
-    0x30, 0x0F, 0x06, 0x09, 0x2A, 0x86, 0x48, 0x86, 0xF7, 0x0D, 0x01, 0x07, 0x02, 0xA0, 0x02, 0x30,
+/// A ContentInfo of type id-data whose content is an empty SEQUENCE.
+const DATA: [u8; 17] = [
+    0x30, 0x0F, 0x06, 0x09, 0x2A, 0x86, 0x48, 0x86, 0xF7, 0x0D, 0x01, 0x07, 0x01, 0xA0, 0x02, 0x30,
     0x00,
 ];
 
@@ -276,9 +278,9 @@ fn refused_fail_infos(rt: HostRuntime) -> Result<(), Fail> {
 fn refused_files(rt: HostRuntime) -> Result<(), Fail> {
     assert!(rt; is_refused(&rt, &[], 0, Why::End));
     assert!(rt; is_refused(&rt, b"abc", 0, Why::Tag));
-    // Behind a notice: a message that is signed, another value, and half a notice.
+    // Behind a notice: a message of another type, another value, and half a notice.
     let rows: [(&[u8], u64, Why); 3] = [
-        (&SIGNED, 28 + 2, Why::Value),
+        (&DATA, 28 + 2, Why::Value),
         (&[0x04, 0x00], 28, Why::Tag),
         (&BAD_DATA_FORMAT[..14], 28, Why::End),
     ];

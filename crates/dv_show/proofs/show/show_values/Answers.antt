@@ -1,4 +1,4 @@
-use Rattle.std.proofs.Common.{true≢false, sym}
+use Rattle.std.proofs.Common.{arith, true≢false, sym}
 use Rattle.std.specs.String.{string_bytes}
 use Rattle.dv_show.proofs.LengthLemmas.{text_is_short}
 use Rattle.dv_show.proofs.ShowLemmas.{not_shown, showing_more, shown_all}
@@ -21,7 +21,8 @@ returns-then-at_end-clause-shown c =
     c.in-Ok-push_line.ensures c.if-at_end.ensures
 
 pub returns-then-at_end-clause-short : goal.returns-then-at_end-clause-short
-returns-then-at_end-clause-short c = text_is_short c.args.octets.now (string_bytes c.push_line.new.text) (returns-then-at_end-clause-shown c)
+returns-then-at_end-clause-short c =
+    text_is_short c.args.octets.now (string_bytes c.push_line.new.text) (λ i. omega (arith, c.type_inv.octets i)) (returns-then-at_end-clause-shown c)
 
 pub values-preserved : goal.values-preserved
 values-preserved c =

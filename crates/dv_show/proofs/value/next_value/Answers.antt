@@ -1,6 +1,6 @@
 use Rattle.std.proofs.Common.{Ok, Err, arith, refl, subst, sym}
-use Rattle.dv_show.specs.declared.value.Shown.{Shown}
-use Rattle.dv_show.specs.Show.{IsValueOf}
+use Rattle.dv_show.specs.declared.shown.Shown.{Shown}
+use Rattle.dv_show.specs.Values.{IsValueOf}
 use Rattle.dv_show.proofs.ValueLemmas.{from_start, held_in, is_shown, message_read, placed_behind, shorter_read, value_held}
 use Rattle.dv_show.proofs.value.next_value.Goals as goal
 

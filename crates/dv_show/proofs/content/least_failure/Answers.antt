@@ -1,9 +1,9 @@
 use Rattle.std.proofs.Common.{ℕ, sym, subst, arith}
 use Rattle.std.specs.Prelude.{Option, Some, None, option_map}
 use Rattle.dv_status.specs.Fail.{fail_octets}
-use Rattle.dv_show.specs.Show.{IsLeast}
-use Rattle.dv_show.proofs.ValueLemmas.{none_below_next, set_bit}
-use Rattle.dv_show.proofs.value.least_failure.Goals as goal
+use Rattle.dv_show.specs.Values.{IsLeast}
+use Rattle.dv_show.proofs.FailLemmas.{none_below_next, set_bit}
+use Rattle.dv_show.proofs.content.least_failure.Goals as goal
 
 pub returns-then-has : goal.returns-then-has
 returns-then-has c =

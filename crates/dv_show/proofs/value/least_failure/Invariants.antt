@@ -1,5 +1,0 @@
-use Rattle.dv_show.proofs.ValueLemmas.{NoneBelow}
-use Rattle.dv_show.proofs.value.least_failure.Given as goal
-
-abbrev pub invariant-loop-bit : goal.invariant-loop-bit
-invariant-loop-bit l = NoneBelow l.fail l.bit
