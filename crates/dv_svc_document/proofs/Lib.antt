@@ -3,3 +3,4 @@ mod DocumentLemmas
 mod EntryLemmas
 mod Positions
 mod ResultLemmas
+mod SignersLemmas

@@ -9,6 +9,7 @@ mod fault;
 mod judge;
 mod named;
 mod result;
+mod signers;
 
 pub use bag::document_bag;
 pub use fault::DocumentBag;
