@@ -1,6 +1,9 @@
 mod BagLemmas
 mod DocumentLemmas
+mod EnteringLemmas
+mod EntryFits
 mod EntryLemmas
+mod FitResults
 mod Positions
 mod ResultLemmas
 mod SignersLemmas

@@ -3,6 +3,7 @@
 
 mod bag;
 mod document;
+mod entering;
 mod entries;
 mod entry;
 mod fault;
