@@ -4,6 +4,7 @@ mod EnteringLemmas
 mod EntryFits
 mod EntryLemmas
 mod FitResults
+mod FoundLemmas
 mod Positions
 mod ResultLemmas
 mod SignersLemmas

@@ -14,8 +14,8 @@ abbrev pub entry_in : Entry → ValueOf target_chain
 entry_in e = entry_with (option_copied e.certificate) (octets_of e.above.items) e.bit
 
 -- the octets of entries, one behind another
-abbrev pub entries_in : List Entry → List ℕ
-entries_in entries = flat_map (λ e. spelling target_chain (entry_in e)) entries
+abbrev pub octets_in : List Entry → List ℕ
+octets_in entries = flat_map (λ e. spelling target_chain (entry_in e)) entries
 
 -- The result speaks of certificates among the first n, and of at most six on its path; and its bit is a failure bit (RFC 4210 5.2.3).
 pub record IsFit (n : ℕ) (r : SignerResult) : Type 0 where
