@@ -5,6 +5,8 @@ mod EntryFits
 mod EntryLemmas
 mod FitResults
 mod FoundLemmas
+pub mod Lengths
+pub mod OneDraft
 mod Positions
 mod ResultLemmas
 mod SignersLemmas
