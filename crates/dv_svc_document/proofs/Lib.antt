@@ -1,5 +1,5 @@
 mod BagLemmas
-mod DocumentLemmas
+pub mod DocumentLemmas
 mod EnteringLemmas
 mod EntryFits
 mod EntryLemmas
