@@ -46,13 +46,13 @@ extensions_of v = v.0.1.1.1.1.1.1.1.1.0
 
 -- ---- what a step tests
 
--- the services that are built: possession of data, 1, validation of certificates, 3, and a claim of possession, 4
-abbrev pub is_built : ℕ → Bool
-is_built service = service == 1 || service == 3 || service == 4
+-- the service is that of signed documents, 2
+abbrev pub is_vsd : ValueOf dvcs_request → Bool
+is_vsd v = service_of v == 2
 
--- the services for which the time of the request counts: validation of certificates
+-- the services for which the time of the request counts: validation of a document, 2, and of certificates, 3
 abbrev pub is_timed : ℕ → Bool
-is_timed service = service == 3
+is_timed service = service == 2 || service == 3
 
 -- it is a text of a second that is later than the moment
 abbrev pub is_after : ℕ → Option (ValueOf request_time) → Bool
@@ -89,14 +89,13 @@ is_valid_at office moment = nat_le office.from moment && nat_le moment office.un
 
 -- ---- the steps, in their order
 
--- The form of the request. badRequest, 2: the version isn't 1, or the service and the data disagree. badTime, 3: its time is a token.
--- systemUnavail, 24: its service isn't built yet. badTime, 3: its time counts, and is later than the moment.
+-- The form of the request. badRequest, 2: the version isn't 1, or the service and the data disagree. badTime, 3: its time is a token, or it
+-- counts, and is later than the moment.
 abbrev pub form_failure : ℕ → ValueOf dvcs_request → Option ℕ
 form_failure moment v =
     if not (version_of v == 1) then Some 2 else
     if not (takes (service_of v) v.1.0) then Some 2 else
     if is_token (time_of v) then Some 3 else
-    if not (is_built (service_of v)) then Some 24 else
     if is_timed (service_of v) && is_after moment (time_of v) then Some 3 else None
 
 -- What it asks of this server. wrongAuthority, 6: it is for others. unacceptedPolicy, 15: it asks for another policy.
@@ -122,8 +121,3 @@ abbrev pub first_of : List (Option ℕ) → Option ℕ
 first_of [] = None
 first_of (Some bit ∷ more) = Some bit
 first_of (None ∷ more) = first_of more
-
--- the failure of a request at a moment, from the first step that refuses it
-abbrev pub failure_at : Office → ℕ → ValueOf dvcs_request → Option ℕ
-failure_at office moment v =
-    first_of (form_failure moment v ∷ office_failure office v ∷ data_failure v.1.0 ∷ time_failure office moment ∷ [])

@@ -16,6 +16,9 @@
 
 mod office;
 mod reply;
+mod request;
+mod signed;
+mod signers;
 mod steps;
 
 pub use reply::{Reply, answer, one_reply};

@@ -16,14 +16,14 @@ ghost use Rattle.dv_request.specs.RequestView.{view_request};
 ghost use Rattle.dv_draft.specs.Servers.{IsPolicyName};
 ghost use Rattle.dv_answer.specs.Messages.{takes as takes_data};
 ghost use Rattle.dv_answer.specs.Offices.{view_office};
-ghost use Rattle.dv_answer.specs.Steps.{form_failure as failure_of_form, has_critical as critical_among, is_after as after, is_another_policy as other_policy, is_built as built, is_critical as critical, is_directory_name as directory_name, is_for_others as for_others, is_timed as timed, office_failure as failure_at_office};
+ghost use Rattle.dv_answer.specs.Steps.{form_failure as failure_of_form, has_critical as critical_among, is_after as after, is_another_policy as other_policy, is_critical as critical, is_directory_name as directory_name, is_for_others as for_others, is_timed as timed, office_failure as failure_at_office};
 
 use crate::office::Office;
 use dv_asn1::{Cursor, Decode, same};
 use dv_names::{Extension, GeneralName, Oid, PolicyInfo};
 use dv_request::{Data, Request, RequestInfo, RequestTime, Service};
 use dv_status::failure::{
-    BAD_REQUEST, BAD_TIME, SYSTEM_UNAVAIL, UNACCEPTED_EXTENSION, UNACCEPTED_POLICY, WRONG_AUTHORITY,
+    BAD_REQUEST, BAD_TIME, UNACCEPTED_EXTENSION, UNACCEPTED_POLICY, WRONG_AUTHORITY,
 };
 use dv_time::Moment;
 
@@ -45,23 +45,13 @@ fn takes(service: Service, data: &Data<'_>) -> bool
     }
 }
 
-/// Whether the service is built.
-fn is_built(service: Service) -> bool
-    ensures { result ≡ built (number_of service) }
-{
-    match service {
-        Service::Cpd | Service::Cpkc | Service::Ccpd => true,
-        Service::Vsd => false,
-    }
-}
-
 /// Whether the time of a request counts for the service.
 fn is_timed(service: Service) -> bool
     ensures { result ≡ timed (number_of service) }
 {
     match service {
-        Service::Cpkc => true,
-        Service::Cpd | Service::Vsd | Service::Ccpd => false,
+        Service::Vsd | Service::Cpkc => true,
+        Service::Cpd | Service::Ccpd => false,
     }
 }
 
@@ -98,9 +88,6 @@ pub(crate) fn form_failure(request: &Request<'_>, moment: Moment) -> Option<u8>
     }
     if let Some(RequestTime::Token(_)) = request.info.time {
         return Some(BAD_TIME);
-    }
-    if !is_built(request.info.service) {
-        return Some(SYSTEM_UNAVAIL);
     }
     if is_timed(request.info.service) && is_after(&request.info, moment) {
         return Some(BAD_TIME);

@@ -26,3 +26,12 @@ information_short r =
     let d : List ℕ = spelled_if (spelling (raw general_name)) (option_copied r.transaction) in
     let whole : List ℕ = contents request_fields (view_request r) in
     omega (arith, r.short, length-append (48 ∷ length_octets (length whole)) whole, length-append a (b ++ (d ++ [])))
+
+-- the data of a request are shorter than the request
+pub data_short : (r : Request) → length (spelling data_of_request (view_data r.matter)) < 4294967296
+data_short r =
+    let a : List ℕ = spelling request_information (view_info r.info) in
+    let b : List ℕ = spelling data_of_request (view_data r.matter) in
+    let d : List ℕ = spelled_if (spelling (raw general_name)) (option_copied r.transaction) in
+    let whole : List ℕ = contents request_fields (view_request r) in
+    omega (arith, r.short, length-append (48 ∷ length_octets (length whole)) whole, length-append a (b ++ (d ++ [])), length-append b (d ++ []))

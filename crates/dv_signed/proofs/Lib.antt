@@ -1,6 +1,7 @@
 pub mod AttributeLists
 pub mod CertificateIds
 pub mod CertificateLemmas
+pub mod OneFault
 pub mod PlaceLemmas
 pub mod Sameness
 pub mod SetLemmas

@@ -79,7 +79,7 @@ one_document message a b x y =
 -- ---- documents that aren't read
 
 -- where all of them are certificates, none is bad
-no_bad : (certificates : List (List ℕ)) (i : ℕ) (cause : X509) → IsFirstBad certificates i cause → All IsCertificate certificates → ⊥
+pub no_bad : (certificates : List (List ℕ)) (i : ℕ) (cause : X509) → IsFirstBad certificates i cause → All IsCertificate certificates → ⊥
 no_bad certificates i cause bad all =
     let at : IsCertificate (get_or certificates i bad.octets) = all i bad.octets (slice_get_within certificates i bad.octets bad.is) in
     let same : get_or certificates i bad.octets ≡ bad.octets = get_or_from_slice_get certificates i bad.octets bad.octets bad.is in

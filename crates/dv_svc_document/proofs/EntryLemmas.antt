@@ -32,7 +32,7 @@ token_few None = status_few 0 None (omega arith)
 token_few (Some b) = status_few 2 (Some b) (omega arith)
 
 -- a certificate as a token has as many as under its own tag
-length-retagged : (octets : List ℕ) → length (retagged 160 octets) ≡ length octets
+pub length-retagged : (octets : List ℕ) → length (retagged 160 octets) ≡ length octets
 length-retagged [] = refl
 length-retagged (t ∷ ts) = refl
 

@@ -1,6 +1,6 @@
 -- What the service of signed documents (RFC 3029 2.2) answers.
-use Rattle.std.specs.Prelude.{◌≡◌, ℕ, Bool, true, is_none, List, [], ◌∷◌, length, map, Option, Some, None, All, if◌then◌else◌}
-use Rattle.std.specs.List.{list_all, list_any, zip}
+use Rattle.std.specs.Prelude.{◌≡◌, ℕ, Bool, true, is_none, List, [], ◌∷◌, map, Option, Some, None, if◌then◌else◌}
+use Rattle.std.specs.List.{list_all, list_any}
 use Rattle.dv_schema.specs.Schema.{ValueOf, contents, sequence_of}
 use Rattle.dv_cms.specs.Types.{signed_data}
 use Rattle.dv_request.specs.Types.{dvcs_request, target_chain}
@@ -13,7 +13,7 @@ use Rattle.dv_signed.specs.Certificates.{certificates_of, signers_of}
 use Rattle.dv_svc_document.specs.declared.result.SignerResult.{SignerResult}
 use Rattle.dv_svc_document.specs.Documents.{IsReadAs}
 use Rattle.dv_svc_document.specs.Entries.{entry_of}
-use Rattle.dv_svc_document.specs.Results.{IsResult}
+use Rattle.dv_svc_document.specs.Results.{HaveResults}
 
 -- ---- the status (RFC 4210 5.2.3)
 
@@ -47,11 +47,10 @@ entries_in (Some document) results = entries_from (certificates_of document) res
 
 -- ---- the draft
 
--- each signer of a document has its result, in order; there are none where no document is read
+-- the results of the signers of a document; none where no document is read
 abbrev pub AreResults : Option (ValueOf signed_data) → List Anchored → ℕ → List SignerResult → Type 0
 AreResults None anchors when results = results ≡ []
-AreResults (Some document) anchors when results =
-    (length results ≡ length (signers_of document)) × All (λ x. IsResult document anchors when x.0 x.1) (zip (signers_of document) results)
+AreResults (Some document) anchors when results = HaveResults document anchors when (signers_of document) results
 
 -- The draft is that of the request, from what was found of its document at the moment of validation.
 pub record IsVsd (request : ValueOf dvcs_request) (message : List ℕ) (anchors : List Anchored) (moment : ℕ) (policy signers : Option (List ℕ)) (d : ValueOf draft) : Type 0 where

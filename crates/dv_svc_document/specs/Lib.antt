@@ -6,3 +6,4 @@ pub mod Entries
 pub mod Kept
 pub mod Named
 pub mod Results
+pub mod Validated

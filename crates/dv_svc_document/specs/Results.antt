@@ -1,5 +1,6 @@
 -- What is found of a signer of a document (RFC 3029 2.2) at a moment, where the certificates of the document are the bag.
-use Rattle.std.specs.Prelude.{◌≡◌, ℕ, Bool, true, ◌||◌, ◌==◌, ◌/◌, ◌%◌, ◌^◌, List, [], slice_index_or, unwrap_or, Option, Some, None, if◌then◌else◌}
+use Rattle.std.specs.Prelude.{◌≡◌, ℕ, Bool, true, ◌||◌, ◌==◌, ◌/◌, ◌%◌, ◌^◌, List, [], length, slice_index_or, unwrap_or, Option, Some, None, All, if◌then◌else◌}
+use Rattle.std.specs.List.{zip}
 use Rattle.dv_schema.specs.Schema.{ValueOf}
 use Rattle.dv_names.specs.declared.digest.DigestKind.{DigestKind}
 use Rattle.dv_cms.specs.Types.{signed_data, signer_info}
@@ -79,3 +80,8 @@ IsResultAt (Some kind) (Some position) s document anchors when r =
 -- it is the result for this signer of the document
 abbrev pub IsResult : ValueOf signed_data → List Anchored → ℕ → ValueOf signer_info → SignerResult → Type 0
 IsResult document anchors when s r = IsResultAt (known_kind s) (named_by s (bag_of document)) s document anchors when r
+
+-- each of these signers of the document has its result, in order
+pub record HaveResults (document : ValueOf signed_data) (anchors : List Anchored) (when : ℕ) (signers : List (ValueOf signer_info)) (results : List SignerResult) : Type 0 where
+  pub one_each : length results ≡ length signers
+  pub right : All (λ x. IsResult document anchors when x.0 x.1) (zip signers results)

@@ -26,6 +26,7 @@ use Rattle.dv_request.specs.Targets.{targets_in}
 use Rattle.dv_request.specs.Types.{data_of_request, dvcs_request, request_fields, request_information, target_chain, target_chains}
 use Rattle.dv_request.proofs.DataLemmas.{certs_spelled, targets_short}
 use Rattle.dv_members.proofs.MemberLemmas.{values_of_octets}
+use Rattle.dv_parts.proofs.RequestLemmas.{data_short}
 
 -- there is at least one target, and each fits where it stands
 abbrev pub AreFit : List (ValueOf target_chain) → Type 0
@@ -52,15 +53,6 @@ at_place P [] i x all is = absurd cc
 at_place P (y ∷ ys) zero x all is = let same : y ≡ x = cc in subst P same all.0
 at_place P (y ∷ ys) (suc i) x all is = at_place P ys i x all.1 is
 
--- the data of a request are shorter than the request
-pub data_short : (r : Request) → length (spelling data_of_request (view_data r.matter)) < 4294967296
-data_short r =
-    let a : List ℕ = spelling request_information (view_info r.info) in
-    let b : List ℕ = spelling data_of_request (view_data r.matter) in
-    let d : List ℕ = spelled_if (spelling (raw general_name)) (option_copied r.transaction) in
-    let whole : List ℕ = contents request_fields (view_request r) in
-    omega (arith, r.short, length-append (48 ∷ length_octets (length whole)) whole, length-append a (b ++ (d ++ [])), length-append b (d ++ []))
-
 -- a target of a request fits, and is shorter than the request
 pub record IsFit (t : ValueOf target_chain) : Type 0 where
   pub fits : ∥ Fits target_chain 28 t ∥₁
@@ -81,21 +73,6 @@ fit_in info (Certs octets n) transaction i t h few is =
 
 pub target_fit : (r : Request) (i : ℕ) (t : ValueOf target_chain) → slice_get (targets_of r.matter) i ≡ Some t → IsFit t
 target_fit r i t is = fit_in (view_info r.info) r.matter (option_copied r.transaction) i t r.spelled (data_short r) is
-
--- ---- its information
-
--- it fits where a draft has it
-pub information_fits : (r : Request) → ∥ Fits request_information 31 (view_info r.info) ∥₁
-information_fits r = ∥∥₁_map r.spelled (λ f. fits_more request_information 29 31 (view_info r.info) (omega arith) f.2.0)
-
--- and is shorter than the request
-pub information_short : (r : Request) → length (spelling request_information (view_info r.info)) < 4294967296
-information_short r =
-    let a : List ℕ = spelling request_information (view_info r.info) in
-    let b : List ℕ = spelling data_of_request (view_data r.matter) in
-    let d : List ℕ = spelled_if (spelling (raw general_name)) (option_copied r.transaction) in
-    let whole : List ℕ = contents request_fields (view_request r) in
-    omega (arith, r.short, length-append (48 ∷ length_octets (length whole)) whole, length-append a (b ++ (d ++ [])))
 
 -- ---- its targets
 
