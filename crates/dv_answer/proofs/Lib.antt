@@ -6,3 +6,4 @@ pub mod StepLemmas
 pub mod PolicyLemmas
 pub mod RequestLemmas
 pub mod ReplyLemmas
+pub mod OneReply

@@ -128,7 +128,15 @@ fn reply_to_signed<L: Ledger>(
         None => Ok(Reply::unread()),
         Some(signatures) => {
             let inside = signatures.content;
-            reply_to_content(alloc, inside, Some(&signatures), moment, server, trust, checks)
+            reply_to_content(
+                alloc,
+                inside,
+                Some(&signatures),
+                moment,
+                server,
+                trust,
+                checks,
+            )
         }
     }
 }

@@ -59,7 +59,9 @@ pub(crate) fn answer_to_request<L: Ledger>(
     }
     let is_valid = office.is_valid_at(moment);
     let signers = signers_of(signatures);
-    drafted(alloc, request, signers, moment, server, trust, is_valid, checks)
+    drafted(
+        alloc, request, signers, moment, server, trust, is_valid, checks,
+    )
 }
 
 /// The failure bit of the first step that refuses a request by its form or by what it asks of the server.

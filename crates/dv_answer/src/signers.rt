@@ -52,7 +52,15 @@ fn failure_of<L: Ledger>(
         return Ok(Some(BAD_MESSAGE_CHECK));
     }
     for signer in 0..signed.signers {
-        let result = judge_signer(alloc, signed, &signatures.bag, signer, trust, moment, checks)?;
+        let result = judge_signer(
+            alloc,
+            signed,
+            &signatures.bag,
+            signer,
+            trust,
+            moment,
+            checks,
+        )?;
         if let Some(bit) = result.bit {
             return Ok(Some(bit));
         }

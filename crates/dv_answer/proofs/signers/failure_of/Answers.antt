@@ -15,10 +15,10 @@ loop-signer-preserved g c =
     let within : c.loop-signer.signer < length (signers_of v) = omega (arith, c.loop-signer-test.true, s.signed.signers_counted) in
     record {
       goes_on =
-      rw add-one
+          rw add-one
           (goes_later v c.args.trust.now c.args.moment (signers_of v) c.loop-signer.signer c.in_ok-result.result c.loop-signer.invariant.goes_on within c.in_ok-result.ensures.found c.in_default.is);
       steps =
-      checks_more c.args.checks.now c.loop-signer.checks c.judge_signer.new.checks c.loop-signer.signer (length s.bag) (length (certificates_of v)) (length c.args.trust.now) (bag_size s)
+          checks_more c.args.checks.now c.loop-signer.checks c.judge_signer.new.checks c.loop-signer.signer (length s.bag) (length (certificates_of v)) (length c.args.trust.now) (bag_size s)
           c.loop-signer.invariant.steps c.in_ok-result.ensures.steps;
     }
 
