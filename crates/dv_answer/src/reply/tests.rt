@@ -1,9 +1,11 @@
-//! Requests that were worked out by hand, and what they are answered.
+//! Requests that were worked out by hand, and what they are answered; and the signed request of docs/examples, which
+//! bench/documents.py writes.
 
 ghost use Rattle.std.specs.Prelude.{◌≡◌, ◌<◌, ◌^◌, length};
 
 use super::*;
 use dv_x509::{OwnParts, own_certificate as certificate_of, own_tbs};
+use example::SIGNED_REQUEST;
 use std::marker::Brand;
 use std::sync::ledger::Blank;
 use std::test::Fail;
@@ -30,6 +32,20 @@ const TOKEN: [u8; 31] = [
 const VSD: [u8; 32] = [
     0x30, 0x1E, 0x06, 0x0B, 0x2A, 0x86, 0x48, 0x86, 0xF7, 0x0D, 0x01, 0x09, 0x10, 0x01, 0x07, 0xA0,
     0x0F, 0x30, 0x0D, 0x30, 0x03, 0x0A, 0x01, 0x02, 0x04, 0x03, 0x61, 0x62, 0x63, 0x82, 0x01, 0x61,
+];
+
+/// The same without it, at the first second of 2025.
+const VSD_AT: [u8; 46] = [
+    0x30, 0x2C, 0x06, 0x0B, 0x2A, 0x86, 0x48, 0x86, 0xF7, 0x0D, 0x01, 0x09, 0x10, 0x01, 0x07, 0xA0,
+    0x1D, 0x30, 0x1B, 0x30, 0x14, 0x0A, 0x01, 0x02, 0x18, 0x0F, 0x32, 0x30, 0x32, 0x35, 0x30, 0x31,
+    0x30, 0x31, 0x30, 0x30, 0x30, 0x30, 0x30, 0x30, 0x5A, 0x04, 0x03, 0x61, 0x62, 0x63,
+];
+
+/// The same one second later.
+const VSD_LATER: [u8; 46] = [
+    0x30, 0x2C, 0x06, 0x0B, 0x2A, 0x86, 0x48, 0x86, 0xF7, 0x0D, 0x01, 0x09, 0x10, 0x01, 0x07, 0xA0,
+    0x1D, 0x30, 0x1B, 0x30, 0x14, 0x0A, 0x01, 0x02, 0x18, 0x0F, 0x32, 0x30, 0x32, 0x35, 0x30, 0x31,
+    0x30, 0x31, 0x30, 0x30, 0x30, 0x30, 0x30, 0x31, 0x5A, 0x04, 0x03, 0x61, 0x62, 0x63,
 ];
 
 /// A request for possession of abc with that transactionIdentifier.
@@ -87,6 +103,59 @@ const SIGNED: [u8; 17] = [
     0x00,
 ];
 
+/// A signed request for possession of abc, without a signer.
+const NO_SIGNER: [u8; 55] = [
+    0x30, 0x35, 0x06, 0x09, 0x2A, 0x86, 0x48, 0x86, 0xF7, 0x0D, 0x01, 0x07, 0x02, 0xA0, 0x28, 0x30,
+    0x26, 0x02, 0x01, 0x03, 0x31, 0x00, 0x30, 0x1D, 0x06, 0x0B, 0x2A, 0x86, 0x48, 0x86, 0xF7, 0x0D,
+    0x01, 0x09, 0x10, 0x01, 0x07, 0xA0, 0x0E, 0x04, 0x0C, 0x30, 0x0A, 0x30, 0x03, 0x0A, 0x01, 0x01,
+    0x04, 0x03, 0x61, 0x62, 0x63, 0x31, 0x00,
+];
+
+/// The same with the content type id-data.
+const OTHER_TYPE: [u8; 53] = [
+    0x30, 0x33, 0x06, 0x09, 0x2A, 0x86, 0x48, 0x86, 0xF7, 0x0D, 0x01, 0x07, 0x02, 0xA0, 0x26, 0x30,
+    0x24, 0x02, 0x01, 0x03, 0x31, 0x00, 0x30, 0x1B, 0x06, 0x09, 0x2A, 0x86, 0x48, 0x86, 0xF7, 0x0D,
+    0x01, 0x07, 0x01, 0xA0, 0x0E, 0x04, 0x0C, 0x30, 0x0A, 0x30, 0x03, 0x0A, 0x01, 0x01, 0x04, 0x03,
+    0x61, 0x62, 0x63, 0x31, 0x00,
+];
+
+/// The same without content.
+const NO_CONTENT: [u8; 39] = [
+    0x30, 0x25, 0x06, 0x09, 0x2A, 0x86, 0x48, 0x86, 0xF7, 0x0D, 0x01, 0x07, 0x02, 0xA0, 0x18, 0x30,
+    0x16, 0x02, 0x01, 0x03, 0x31, 0x00, 0x30, 0x0D, 0x06, 0x0B, 0x2A, 0x86, 0x48, 0x86, 0xF7, 0x0D,
+    0x01, 0x09, 0x10, 0x01, 0x07, 0x31, 0x00,
+];
+
+/// The same with an empty SEQUENCE as its certificate.
+const BAD_CERTIFICATE: [u8; 59] = [
+    0x30, 0x39, 0x06, 0x09, 0x2A, 0x86, 0x48, 0x86, 0xF7, 0x0D, 0x01, 0x07, 0x02, 0xA0, 0x2C, 0x30,
+    0x2A, 0x02, 0x01, 0x03, 0x31, 0x00, 0x30, 0x1D, 0x06, 0x0B, 0x2A, 0x86, 0x48, 0x86, 0xF7, 0x0D,
+    0x01, 0x09, 0x10, 0x01, 0x07, 0xA0, 0x0E, 0x04, 0x0C, 0x30, 0x0A, 0x30, 0x03, 0x0A, 0x01, 0x01,
+    0x04, 0x03, 0x61, 0x62, 0x63, 0xA0, 0x02, 0x30, 0x00, 0x31, 0x00,
+];
+
+/// A signer whose algorithms are unknown.
+const SIGNER: [u8; 19] = [
+    0x30, 0x11, 0x02, 0x01, 0x03, 0x80, 0x00, 0x30, 0x03, 0x06, 0x01, 0x2A, 0x30, 0x03, 0x06, 0x01,
+    0x2A, 0x04, 0x00,
+];
+
+/// What stands before the 8 signers of such a request.
+const EIGHT: [u8; 59] = [
+    0x30, 0x81, 0xD0, 0x06, 0x09, 0x2A, 0x86, 0x48, 0x86, 0xF7, 0x0D, 0x01, 0x07, 0x02, 0xA0, 0x81,
+    0xC2, 0x30, 0x81, 0xBF, 0x02, 0x01, 0x03, 0x31, 0x00, 0x30, 0x1D, 0x06, 0x0B, 0x2A, 0x86, 0x48,
+    0x86, 0xF7, 0x0D, 0x01, 0x09, 0x10, 0x01, 0x07, 0xA0, 0x0E, 0x04, 0x0C, 0x30, 0x0A, 0x30, 0x03,
+    0x0A, 0x01, 0x01, 0x04, 0x03, 0x61, 0x62, 0x63, 0x31, 0x81, 0x98,
+];
+
+/// What stands before the 9 signers of such a request.
+const NINE: [u8; 59] = [
+    0x30, 0x81, 0xE3, 0x06, 0x09, 0x2A, 0x86, 0x48, 0x86, 0xF7, 0x0D, 0x01, 0x07, 0x02, 0xA0, 0x81,
+    0xD5, 0x30, 0x81, 0xD2, 0x02, 0x01, 0x03, 0x31, 0x00, 0x30, 0x1D, 0x06, 0x0B, 0x2A, 0x86, 0x48,
+    0x86, 0xF7, 0x0D, 0x01, 0x09, 0x10, 0x01, 0x07, 0xA0, 0x0E, 0x04, 0x0C, 0x30, 0x0A, 0x30, 0x03,
+    0x0A, 0x01, 0x01, 0x04, 0x03, 0x61, 0x62, 0x63, 0x31, 0x81, 0xAB,
+];
+
 /// The SHA-256 digest of abc (FIPS 180-4).
 const DIGEST: [u8; 32] = [
     0xBA, 0x78, 0x16, 0xBF, 0x8F, 0x01, 0xCF, 0xEA, 0x41, 0x41, 0x40, 0xDE, 0x5D, 0xAE, 0x22, 0x23,
@@ -126,20 +195,13 @@ fn server(alloc: Global, policy: Option<u8>) -> Result<Server, AllocError> {
     }
 }
 
-/// The anchor of the server notary itself.
-fn trust(alloc: Global) -> Result<Trust, AllocError> {
-    match Trust::decode(alloc, &own_octets(alloc)?) {
-        Err(_) => Err(AllocError),
-        Ok(trust) => Ok(trust),
-    }
-}
-
-/// The reply of a server that trusts itself. The signatures that are verified for it are counted on a new ledger.
+/// The reply of a server with these anchors. The signatures that are verified for it are counted on a new ledger.
 fn replied<L: Ledger>(
     alloc: Global,
     octets: &[u8],
     moment: Moment,
     server: &Server,
+    trust: &Trust,
     blank: Blank,
 ) -> Result<Reply, AllocError>
     requires name { blank.name ≡ L.name }
@@ -147,20 +209,48 @@ fn replied<L: Ledger>(
     requires some { 0 < blank.parts }
     requires short { length octets.now < 2 ^ 32 }
 {
-    let trust = trust(alloc)?;
     let mut checks = Steps::<L>::new(blank);
-    answer(alloc, octets, moment, server, &trust, &mut checks)
+    answer(alloc, octets, moment, server, trust, &mut checks)
 }
 
-/// The reply of a server with this policy at a second since 1970.
+/// The reply of a server at a second since 1970, where the holder of this certificate is the anchor.
+fn reply_under(
+    alloc: Global,
+    octets: &[u8],
+    second: u64,
+    server: &Server,
+    anchor: &[u8],
+) -> Result<Reply, AllocError>
+    requires { length octets.now < 2 ^ 32 }
+{
+    let Ok(trust) = Trust::decode(alloc, anchor) else {
+        return Err(AllocError);
+    };
+    match Moment::from_unix(second) {
+        None => Err(AllocError),
+        Some(moment) => replied::<Brand>(alloc, octets, moment, server, &trust, Blank::new(1)),
+    }
+}
+
+/// The reply of a server with this policy, which trusts itself, at a second since 1970.
 fn reply(alloc: Global, octets: &[u8], second: u64, policy: Option<u8>) -> Result<Reply, AllocError>
     requires { length octets.now < 2 ^ 32 }
 {
     let server = server(alloc, policy)?;
-    match Moment::from_unix(second) {
-        None => Err(AllocError),
-        Some(moment) => replied::<Brand>(alloc, octets, moment, &server, Blank::new(1)),
+    let own = own_octets(alloc)?;
+    reply_under(alloc, octets, second, &server, &own)
+}
+
+/// The reply to a request with so many signers behind these octets.
+fn reply_to_signers(alloc: Global, front: &[u8; 59], count: u8) -> Result<Reply, AllocError> {
+    let mut octets = front.to_vec(alloc)?;
+    for _ in 0..count {
+        octets.extend_from_slice(&SIGNER)?;
     }
+    if octets.len() > 1000 {
+        return Err(AllocError);
+    }
+    reply(alloc, &octets, FROM, None)
 }
 
 /// The failure bit of a notice; None of a draft.
@@ -179,13 +269,34 @@ fn transaction(reply: &Reply) -> &[u8] {
     }
 }
 
+/// Whether the reply is a draft with this signer set of the request and this status, None where it has none.
+fn is_draft_with(reply: &Reply, signers: Option<&[u8]>, status: Option<(u8, Option<u8>)>) -> bool {
+    match &reply.answer {
+        Answer::Notice { .. } => false,
+        Answer::Draft(draft) => {
+            let said = match draft.status {
+                None => None,
+                Some(status) => Some((status.status, status.bit)),
+            };
+            let signed = match (&draft.req_signature, signers) {
+                (None, None) => true,
+                (Some(held), Some(signers)) => held.as_slice() == signers,
+                _ => false,
+            };
+            signed && said == status
+        }
+    }
+}
+
 #[test]
 fn octets_without_a_request(rt: HostRuntime) -> Result<(), Fail> {
-    let none = reply(rt.alloc(), &[], FROM, None)?;
-    assert_eq!(rt; bit(&none), Some(5));
-    let signed = reply(rt.alloc(), &SIGNED, FROM, None)?;
-    assert_eq!(rt; bit(&signed), Some(24));
-    assert!(rt; signed.transaction.is_none());
+    assert_eq!(rt; bit(&reply(rt.alloc(), &[], FROM, None)?), Some(5));
+    let rows: [&[u8]; 4] = [&SIGNED, &OTHER_TYPE, &NO_CONTENT, &BAD_CERTIFICATE];
+    for octets in rows {
+        let reply = reply(rt.alloc(), octets, FROM, None)?;
+        assert_eq!(rt; bit(&reply), Some(5));
+        assert!(rt; reply.transaction.is_none());
+    }
     Ok(())
 }
 
@@ -193,9 +304,38 @@ fn octets_without_a_request(rt: HostRuntime) -> Result<(), Fail> {
 fn refused_by_form(rt: HostRuntime) -> Result<(), Fail> {
     assert_eq!(rt; bit(&reply(rt.alloc(), &VERSION_TWO, FROM, None)?), Some(2));
     assert_eq!(rt; bit(&reply(rt.alloc(), &TOKEN, FROM, None)?), Some(3));
+    assert_eq!(rt; bit(&reply(rt.alloc(), &VSD_LATER, FROM, None)?), Some(3));
+    Ok(())
+}
+
+#[test]
+fn refused_by_signers(rt: HostRuntime) -> Result<(), Fail> {
+    assert_eq!(rt; bit(&reply(rt.alloc(), &NO_SIGNER, FROM, None)?), Some(1));
+    assert_eq!(rt; bit(&reply_to_signers(rt.alloc(), &EIGHT, 8)?), Some(0));
+    assert_eq!(rt; bit(&reply_to_signers(rt.alloc(), &NINE, 9)?), Some(5));
+    assert_eq!(rt;
+        bit(&reply(rt.alloc(), &SIGNED_REQUEST, FROM, None)?),
+        Some(20)
+    );
+    Ok(())
+}
+
+#[test]
+fn signed_by_a_subscriber(rt: HostRuntime) -> Result<(), Fail> {
+    let server = server(rt.alloc(), None)?;
+    let authority = &SIGNED_REQUEST[1615..3168];
+    let granted = reply_under(rt.alloc(), &SIGNED_REQUEST, FROM, &server, authority)?;
+    assert!(rt; is_draft_with(&granted, Some(&SIGNED_REQUEST[3172..]), None));
+    Ok(())
+}
+
+#[test]
+fn documents_that_are_none(rt: HostRuntime) -> Result<(), Fail> {
     let vsd = reply(rt.alloc(), &VSD, FROM, None)?;
-    assert_eq!(rt; bit(&vsd), Some(24));
+    assert!(rt; is_draft_with(&vsd, None, Some((2, Some(5)))));
     assert_eq!(rt; transaction(&vsd), [0x82u8, 0x01, 0x61].as_slice());
+    assert_eq!(rt; bit(&reply(rt.alloc(), &VSD_AT, FROM, None)?), None);
+    assert_eq!(rt; bit(&reply(rt.alloc(), &VSD, FROM - 1, None)?), Some(14));
     Ok(())
 }
 
@@ -243,3 +383,5 @@ fn a_draft_of_abc(rt: HostRuntime) -> Result<(), Fail> {
     }
     Ok(())
 }
+
+mod example;

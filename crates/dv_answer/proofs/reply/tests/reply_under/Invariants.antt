@@ -1,4 +1,4 @@
-use Rattle.dv_answer.proofs.reply.tests.reply.Given as goal
+use Rattle.dv_answer.proofs.reply.tests.reply_under.Given as goal
 
 -- the ledger that counts the verifications of this reply
 abbrev pub ghosts-replied : goal.ghosts-replied
