@@ -66,8 +66,8 @@ parts_few v =
       length-tlv 49 (signer_set_of v),
     )
 
--- so those of its content are fewer than it has
-pub content_short : (v : ValueOf signed_data) (octets : List ℕ) → content_of v ≡ Some octets → length octets ≤ length (spelling signed_data v)
+-- so those of its content and of its signers are fewer than it has
+pub content_short : (v : ValueOf signed_data) (octets : List ℕ) → content_of v ≡ Some octets → length octets + length (signer_set_of v) ≤ length (spelling signed_data v)
 content_short v octets is =
     let type : List ℕ = tlv 6 v.1.1.0.0 in
     let held : List ℕ = spelled_if (spelling (explicit 160 octet_string)) v.1.1.0.1.0 in

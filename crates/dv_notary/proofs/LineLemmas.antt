@@ -65,7 +65,7 @@ memory_ends tells content counts files line (show file) station is = record {
   put = λ e. absurd (elim e [ inl a ↦ omega (arith, a) | inr a ↦ omega (arith, a) ]);
   not_shown = λ e. absurd (omega (arith, e));
   quiet = λ n m. refl;
-  spends = spends_less 0 0 1 16777216 (counts station) (counts station) (omega arith) (omega arith) (spends_none (counts station));
+  spends = spends_less 0 0 1 67108864 (counts station) (counts station) (omega arith) (omega arith) (spends_none (counts station));
 }
 memory_ends tells content counts files line (init register seed name from until first) station is =
     init_unread MemoryStatus (inr (inr refl)) refl refl (λ e. absurd (cc))

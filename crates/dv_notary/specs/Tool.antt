@@ -111,7 +111,7 @@ pub record ShowEnds {V : Type 0} (tells : V → Bool) (content : V → Content) 
   pub put : (status ≡ 0) ⊎ (status ≡ 5) → PutsShown files file status (tells station) (content station) (content result)
   pub not_shown : status ≡ 3 → IfSome files (λ f. IsNotShown (f file))
   pub quiet : status ≢ 0 → status ≢ 5 → result ≡ station
-  pub spends : Spends 1 16777216 (counts station) (counts result)
+  pub spends : Spends 1 67108864 (counts station) (counts result)
 
 -- ---- init
 

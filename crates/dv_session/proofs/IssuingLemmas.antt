@@ -29,6 +29,18 @@ use Rattle.dv_draft.specs.CertInfo.{cert_info_of}
 use Rattle.dv_draft.specs.Records.{record_in, record_of}
 use Rattle.dv_draft.specs.Types.{draft, has_length}
 use Rattle.dv_path.specs.Anchors.{Anchored}
+use Rattle.dv_path.specs.declared.path.Path.{Path}
+use Rattle.dv_path.specs.Members.{member}
+use Rattle.dv_cms.specs.Types.{signed_data, signer_info}
+use Rattle.dv_x509.specs.Uses.{usage_of}
+use Rattle.dv_names.specs.declared.digest.DigestKind.{DigestKind}
+use Rattle.dv_signed.specs.declared.fault.SignerFault.{SignerFault}
+use Rattle.dv_signed.specs.Certificates.{signers_of}
+use Rattle.dv_signed.specs.Check.{known_kind}
+use Rattle.dv_svc_document.specs.declared.result.SignerResult.{SignerResult}
+use Rattle.dv_svc_document.specs.Bags.{bag_of}
+use Rattle.dv_svc_document.specs.Named.{named_by}
+use Rattle.dv_svc_document.specs.Results.{IsResultAt, IsResultWith, may_sign, trust_failure}
 use Rattle.dv_svc_pkc.specs.Certificates.{certificates_of, is_certificate, is_refused, target_failure}
 use Rattle.dv_svc_possession.specs.Possession.{is_unknown}
 use Rattle.dv_cert.specs.Certificates.{MayLeave, certificate_of, issued_if, key_of, sealed_with, service_issued}
@@ -40,8 +52,9 @@ use Rattle.dv_session.specs.declared.issuing.Issued.{Issued}
 use Rattle.dv_answer.specs.declared.reply.Reply.{Reply}
 use Rattle.dv_answer.specs.Messages.{is_token, takes, version_of}
 use Rattle.dv_session.specs.Issuing.{Given, bit_of_refusal, notice_for, view_issued}
-use Rattle.dv_answer.specs.Replies.{IsAnswerWith, IsDraftFor, IsReply, signed_message, request_message, other_octets}
-use Rattle.dv_answer.specs.Steps.{Office, data_failure, failure_at, first_of, form_failure, has_critical, extensions_of, is_another_policy, is_after, is_built, is_for_others, is_timed, is_valid_at, office_failure, policy_of, service_of, servers_of, time_failure, time_of}
+use Rattle.dv_answer.specs.Failures.{IsFailure, IsFailureOf, IsFirstBit, IsSignersFailure, OrNext}
+use Rattle.dv_answer.specs.Replies.{IsAnswerOf, IsAnswerWith, IsDraftFor, IsReply, request_message, other_octets, signers_in}
+use Rattle.dv_answer.specs.Steps.{Office, data_failure, first_of, form_failure, has_critical, extensions_of, is_another_policy, is_after, is_for_others, is_timed, is_valid_at, office_failure, policy_of, service_of, servers_of, time_failure, time_of}
 
 -- ---- notices
 
@@ -62,7 +75,7 @@ known_form moment v =
     known_if (not (version_of v == 1)) (Some 2) _ (omega arith)
     (known_if (not (takes (service_of v) v.1.0)) (Some 2) _ (omega arith)
     (known_if (is_token (time_of v)) (Some 3) _ (omega arith)
-    (known_if (not (is_built (service_of v))) (Some 24) _ (omega arith) (known_if (is_timed (service_of v) && is_after moment (time_of v)) (Some 3) None (omega arith) tt))))
+    (known_if (is_timed (service_of v) && is_after moment (time_of v)) (Some 3) None (omega arith) tt)))
 
 known_office : (office : Office) (v : ValueOf dvcs_request) → IsKnown (office_failure office v)
 known_office office v =
@@ -89,30 +102,69 @@ known_data (inr (inl claim)) =
     known_if (is_unknown (kind_of claim.0)) (Some 0) (cond fits None (Some 5)) (omega arith) (known_if fits None (Some 5) tt (omega arith))
 known_data (inr (inr certs)) = known_if (nat_lt 8 (length (targets_in certs))) (Some 2) _ (omega arith) (known_targets (targets_in certs))
 
-known_failure : (office : Office) (moment : ℕ) (v : ValueOf dvcs_request) → IsKnown (failure_at office moment v)
-known_failure office moment v =
-    known_first (form_failure moment v) _ (known_form moment v)
-    (known_first (office_failure office v) _ (known_office office v)
-    (known_first (data_failure v.1.0) _ (known_data v.1.0)
-    (known_first (time_failure office moment) [] (known_if (is_valid_at office moment) None (Some 14) tt (omega arith)) tt)))
+-- so does that of a signer
+known_trust : (path : Option Path) (usage : Option ℕ) → IsKnown (trust_failure path usage)
+known_trust None usage = omega arith
+known_trust (Some path) usage = known_if (may_sign usage) None (Some 20) tt (omega arith)
+
+known_with : (fault : Option SignerFault) (document : ValueOf signed_data) (position : ℕ) (anchors : List Anchored) (when : ℕ) (r : SignerResult) → IsResultWith fault document position anchors when r → IsKnown r.bit
+known_with (Some fault) document position anchors when r is = subst (λ (x : SignerResult). IsKnown x.bit) (sym is) (omega arith)
+known_with None document position anchors when r is = subst (λ (x : SignerResult). IsKnown x.bit) (sym is.1) (known_trust r.path (usage_of (member (bag_of document) position)))
+
+known_at : (kind : Option DigestKind) (named : Option ℕ) (s : ValueOf signer_info) (document : ValueOf signed_data) (anchors : List Anchored) (when : ℕ) (r : SignerResult) → IsResultAt kind named s document anchors when r
+    → IsKnown r.bit
+known_at None named s document anchors when r is = subst (λ (x : SignerResult). IsKnown x.bit) (sym is) (omega arith)
+known_at (Some kind) None s document anchors when r is = subst (λ (x : SignerResult). IsKnown x.bit) (sym is) (omega arith)
+known_at (Some kind) (Some position) s document anchors when r is = known_with is.0 document position anchors when r is.2
+
+known_or : (first : Option ℕ) (IsNext : Option ℕ → Type 0) (failure : Option ℕ) → IsKnown first → (IsNext failure → IsKnown failure) → OrNext first IsNext failure → IsKnown failure
+known_or None IsNext failure known next is = next is
+known_or (Some bit) IsNext failure known next is = subst IsKnown (sym is) known
+
+known_bit : (document : ValueOf signed_data) (anchors : List Anchored) (moment : ℕ) (ss : List (ValueOf signer_info)) (failure : Option ℕ) → IsFirstBit document anchors moment ss failure → IsKnown failure
+known_bit document anchors moment [] failure is = subst IsKnown (sym is) tt
+known_bit document anchors moment (s ∷ ss) failure is =
+    known_or is.0.bit (IsFirstBit document anchors moment ss) failure (known_at (known_kind s) (named_by s (bag_of document)) s document anchors moment is.0 is.1)
+    (known_bit document anchors moment ss failure) is.2
+
+known_of : (document : ValueOf signed_data) (anchors : List Anchored) (moment : ℕ) (ss : List (ValueOf signer_info)) (failure : Option ℕ) → IsFailureOf document anchors moment ss failure → IsKnown failure
+known_of document anchors moment [] failure is = subst IsKnown (sym is) (omega arith)
+known_of document anchors moment (s ∷ ss) failure is = known_bit document anchors moment (s ∷ ss) failure is
+
+known_signers : (document : Option (ValueOf signed_data)) (anchors : List Anchored) (moment : ℕ) (failure : Option ℕ) → IsSignersFailure document anchors moment failure → IsKnown failure
+known_signers None anchors moment failure is = subst IsKnown (sym is) tt
+known_signers (Some document) anchors moment failure is = known_of document anchors moment (signers_of document) failure is
+
+-- and that of a request
+known_failure : (office : Office) (anchors : List Anchored) (moment : ℕ) (document : Option (ValueOf signed_data)) (v : ValueOf dvcs_request) (failure : Option ℕ) → IsFailure office anchors moment document v failure
+    → IsKnown failure
+known_failure office anchors moment document v failure is =
+    known_or (first_of (form_failure moment v ∷ office_failure office v ∷ []))
+    (λ failure. (signers : Option ℕ) × IsSignersFailure document anchors moment signers × (failure ≡ first_of (signers ∷ data_failure v.1.0 ∷ time_failure office moment ∷ [])))
+    failure
+    (known_first (form_failure moment v) (office_failure office v ∷ []) (known_form moment v) (known_first (office_failure office v) [] (known_office office v) tt))
+    (λ x. subst IsKnown (sym x.2)
+    (known_first x.0 _ (known_signers document anchors moment x.0 x.1)
+    (known_first (data_failure v.1.0) _ (known_data v.1.0) (known_first (time_failure office moment) [] (known_if (is_valid_at office moment) None (Some 14) tt (omega arith)) tt))))
+    is
 
 -- a draft is no notice
-no_notice : (matter : ValueOf data_of_request) (v : ValueOf dvcs_request) (anchors : List Anchored) (moment : ℕ) (policy : Option (List ℕ)) (bit : ℕ) → IsDraftFor matter v anchors moment policy (Notice bit) → ⊥
-no_notice (inl message) v anchors moment policy bit is = is
-no_notice (inr (inl claim)) v anchors moment policy bit is = is
-no_notice (inr (inr targets)) v anchors moment policy bit is = is
+no_notice : (matter : ValueOf data_of_request) (v : ValueOf dvcs_request) (anchors : List Anchored) (moment : ℕ) (policy signers : Option (List ℕ)) (bit : ℕ) → IsDraftFor matter v anchors moment policy signers (Notice bit) → ⊥
+no_notice (inl message) v anchors moment policy signers bit is = is
+no_notice (inr (inl claim)) v anchors moment policy signers bit is = is
+no_notice (inr (inr targets)) v anchors moment policy signers bit is = is
 
-noticed_known : (failure : Option ℕ) (v : ValueOf dvcs_request) (anchors : List Anchored) (moment : ℕ) (policy : Option (List ℕ)) (bit : ℕ) → IsKnown failure → IsAnswerWith failure v anchors moment policy (Notice bit) → bit ≤ 26
-noticed_known (Some b) v anchors moment policy bit known is = let same : bit ≡ b = cc in omega (arith, same, known)
-noticed_known None v anchors moment policy bit known is = absurd (no_notice v.1.0 v anchors moment policy bit is)
+noticed_known : (failure : Option ℕ) (v : ValueOf dvcs_request) (anchors : List Anchored) (moment : ℕ) (policy signers : Option (List ℕ)) (bit : ℕ) → IsKnown failure
+    → IsAnswerWith failure v anchors moment policy signers (Notice bit) → bit ≤ 26
+noticed_known (Some b) v anchors moment policy signers bit known is = let same : bit ≡ b = cc in omega (arith, same, known)
+noticed_known None v anchors moment policy signers bit known is = absurd (no_notice v.1.0 v anchors moment policy signers bit is)
 
 -- the failure bit of a notice is known
 pub bit_known : (octets : List ℕ) (moment : ℕ) (server : Server) (anchors : List Anchored) (reply : Reply) (bit : ℕ) → IsReply octets moment server anchors reply → reply.answer ≡ Notice bit → bit ≤ 26
-bit_known octets moment server anchors reply bit (signed_message info absent notice) is = let same : bit ≡ 24 = cc in omega (arith, same)
-bit_known octets moment server anchors reply bit (request_message v message carried answered) is =
-    noticed_known (failure_at answered.0 moment v) v anchors moment server.policy bit (known_failure answered.0 moment v)
-    (subst (IsAnswerWith (failure_at answered.0 moment v) v anchors moment server.policy) is answered.2)
-bit_known octets moment server anchors reply bit (other_octets unsigned none absent notice) is = let same : bit ≡ 5 = cc in omega (arith, same)
+bit_known octets moment server anchors reply bit (request_message document v message carried answered) is =
+    noticed_known answered.failure v anchors moment server.policy (signers_in document) bit (known_failure answered.office anchors moment document v answered.failure answered.is_failure)
+    (subst (IsAnswerWith answered.failure v anchors moment server.policy (signers_in document)) is answered.is)
+bit_known octets moment server anchors reply bit (other_octets none absent notice) is = let same : bit ≡ 5 = cc in omega (arith, same)
 
 -- a transactionIdentifier stands at depth 4
 carried_is : (o : Option (List ℕ)) → IfSome o (Fits (raw general_name) 29) → IsTransaction (unwrap_or o [])
@@ -120,10 +172,9 @@ carried_is None fits = inl refl
 carried_is (Some octets) fits = inr (fits.0, fits.2, fits.1)
 
 pub transaction_is : (octets : List ℕ) (moment : ℕ) (server : Server) (anchors : List Anchored) (reply : Reply) → IsReply octets moment server anchors reply → IsTransaction (unwrap_or reply.transaction [])
-transaction_is octets moment server anchors reply (signed_message info absent notice) = inl (ap (λ (o : Option (List ℕ)). unwrap_or o []) absent)
-transaction_is octets moment server anchors reply (request_message v message carried answered) =
+transaction_is octets moment server anchors reply (request_message document v message carried answered) =
     subst (λ (o : Option (List ℕ)). IsTransaction (unwrap_or o [])) (sym carried) (carried_is v.1.1.0 message.0.2.1.1.0)
-transaction_is octets moment server anchors reply (other_octets unsigned none absent notice) = inl (ap (λ (o : Option (List ℕ)). unwrap_or o []) absent)
+transaction_is octets moment server anchors reply (other_octets none absent notice) = inl (ap (λ (o : Option (List ℕ)). unwrap_or o []) absent)
 
 -- ---- certificates
 

@@ -5,8 +5,9 @@
 //! imprint and status. A certificate is read where it is the content of signed data; requests and notices are read so too, and
 //! unsigned. No signature is looked at.
 //!
-//! What it promises: the text has exactly the lines of the file's values, and a file gets none exactly where it has no value, or
-//! one that is none of these; the refusal's place is then that of the first check that fails.
+//! What it promises: the text has exactly the lines of the file's values, and at most four times as many octets as the file. A
+//! file gets none exactly where it has no value, or one that is none of these, but for want of memory. That a refusal's place is
+//! that of the first check that fails is only tested.
 //!
 //! The definitions stand in `Values` (what a value is), `Lines` (its line) and `Show` (the text of a file).
 //!

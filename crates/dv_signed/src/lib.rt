@@ -20,6 +20,7 @@ mod encapsulated;
 mod essential;
 mod fault;
 mod header;
+pub mod laws;
 mod sid;
 mod signed_data;
 mod signer;

@@ -186,3 +186,6 @@ fn read_signers<'a>(c: &mut Cursor<'a>) -> Result<(&'a [u8], u32), Der>
     let (set, count) = read_counted::<Signer>(c, SET, false)?;
     Ok((set, count as u32))
 }
+
+#[cfg(test)]
+mod tests;

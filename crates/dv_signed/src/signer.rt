@@ -94,3 +94,6 @@ fn read_version(c: &mut Cursor<'_>) -> Result<u8, Der>
     *c = next;
     Ok(number as u8)
 }
+
+#[cfg(test)]
+mod tests;

@@ -33,7 +33,7 @@ pub(crate) fn put_shown<V: Station, F: Shelf, E: Diag>(
     ensures shelf_fault { result ≡ Status.Shelf → Rose (F.faults shelf.old) (F.faults shelf.new) }
     ensures shelf_later { F.faults shelf.old ≤ F.faults shelf.new }
     ensures shelf_files { F.files shelf.new ≡ F.files shelf.old }
-    ensures spends { Spends 1 16777216 (V.counts station.old) (V.counts station.new) }
+    ensures spends { Spends 1 67108864 (V.counts station.old) (V.counts station.new) }
     ensures tells { V.tells station.new ≡ V.tells station.old }
 {
     let octets = match shelf.read(alloc, file, FILE_LIMIT) {

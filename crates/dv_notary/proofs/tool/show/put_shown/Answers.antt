@@ -39,9 +39,9 @@ returns-clause-put g c = λ _. (
 pub returns-in-Ok-put-clause-spends : goal.returns-in-Ok-put-clause-spends
 returns-in-Ok-put-clause-spends g c =
     let a = c.in-Ok-show_values.ensures.short in
-    spends_less 1 _ 1 16777216 _ _ (omega arith) (omega (arith, a, ap length c.as_bytes.ensures.value, ap length c.deref.ensures.value, c.in-Ok.ensures.short)) c.in-Ok-put.ensures.spends
+    spends_less 1 _ 1 67108864 _ _ (omega arith) (omega (arith, a, ap length c.as_bytes.ensures.value, ap length c.deref.ensures.value, c.in-Ok.ensures.short)) c.in-Ok-put.ensures.spends
 
 pub returns-clause-spends : goal.returns-clause-spends
 returns-clause-spends g c =
     let a = c.in-Ok-show_values.ensures.short in
-    spends_less 1 _ 1 16777216 _ _ (omega arith) (omega (arith, a, ap length c.as_bytes.ensures.value, ap length c.deref.ensures.value, c.in-Ok.ensures.short)) c.in-Err-put.ensures.spends
+    spends_less 1 _ 1 67108864 _ _ (omega arith) (omega (arith, a, ap length c.as_bytes.ensures.value, ap length c.deref.ensures.value, c.in-Ok.ensures.short)) c.in-Err-put.ensures.spends
