@@ -29,3 +29,6 @@ pub use fault::DocumentBag;
 pub use judge::judge_signer;
 pub use result::SignerResult;
 pub use vsd::answer_vsd;
+
+#[cfg(test)]
+mod tests;
