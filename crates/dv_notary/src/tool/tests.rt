@@ -231,14 +231,14 @@ fn refused_files(rt: HostRuntime) -> Result<(), Fail> {
     Ok(())
 }
 
-// A signed request is refused at its type, and what a request's content is at its place in the file.
+// Signed data without a version are refused at their end, and what a request's content is at its place in the file.
 #[test]
 fn files_that_are_not_shown(rt: HostRuntime) -> Result<(), Fail> {
     let rows = [
         ("empty", "empty: refused at 0"),
         ("abc", "abc: refused at 0"),
         ("unknown", "unknown: refused at 21"),
-        ("mixed", "mixed: refused at 31"),
+        ("mixed", "mixed: refused at 46"),
     ];
     for (file, line) in rows {
         assert!(rt;
