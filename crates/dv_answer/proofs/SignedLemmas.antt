@@ -31,11 +31,6 @@ pub is_there : (o : Option (Bor (List ℕ))) (held : Bor (List ℕ)) → o ≡ S
 is_there None held is = absurd cc
 is_there (Some octets) held is = let same : octets ≡ held = cc in (refl, ap (λ (b : Bor (List ℕ)). Some b.now) same)
 
--- and where the value has octets, they are there
-pub content_there : (o : Option (Bor (List ℕ))) (octets : List ℕ) → option_map (λ (c : List ℕ × Unit {0}). c.0) (option_map (λ (c : List ℕ). (c, tt)) (option_copied o)) ≡ Some octets → IsSome o
-content_there None octets is = absurd cc
-content_there (Some held) octets is = refl
-
 -- such octets are no more than those of the value that holds them
 content_few : (o : Option (List ℕ × Unit {0})) (octets : List ℕ) → option_map (λ (c : List ℕ × Unit {0}). c.0) o ≡ Some octets → length octets ≤ length (spelled_if (spelling (explicit 160 octet_string)) o)
 content_few None octets is = absurd cc
