@@ -299,6 +299,21 @@ fn is_draft(draft: &Draft, status: u8, bit: Option<u8>, certs: &[u8]) -> bool {
     same && own.status == status && own.bit == bit
 }
 
+/// Whether a document with this content, these certificates and these signers is rejected with the failure bit, without entries.
+fn is_refused(
+    alloc: Global,
+    anchor: &[u8],
+    encapsulated: &[u8],
+    certificates: &[&[u8]],
+    signers: &[&[u8]],
+    bit: u8,
+) -> Result<bool, AllocError> {
+    let signed = signed_data(alloc, encapsulated, certificates, signers)?;
+    let message = message_of(alloc, &signed)?;
+    let draft = answered(alloc, anchor, END, INFO, &message)?;
+    Ok(is_draft(&draft, 2, Some(bit), &[]))
+}
+
 /// The certificate as a token.
 fn token(alloc: Global, certificate: &[u8]) -> Result<Vec<u8>, AllocError> {
     joined(alloc, &[&[0xA0], certificate.get(1..).unwrap_or(&[])])
@@ -457,29 +472,33 @@ fn signers_that_are_not_trusted(rt: HostRuntime) -> Result<(), Fail> {
 }
 
 #[test]
-fn documents_without_a_signer(rt: HostRuntime) -> Result<(), Fail> {
+fn documents_without_a_result(rt: HostRuntime) -> Result<(), Fail> {
     let alloc = rt.alloc();
     let anchor = make_anchor(alloc)?;
+    let own = anchor.as_slice();
     let signer = signer_info(alloc, b'R', 1, HSS, &[])?;
+    let signer = signer.as_slice();
 
-    // No signer, and nine; seventeen certificates, one that doesn't decode, no content, and a message that is no document.
-    let none = validated(alloc, &anchor, &[&anchor], &[])?;
-    assert!(rt; is_draft(&none, 2, Some(1), &[]));
-    let nine = validated(alloc, &anchor, &[&anchor], &[signer.as_slice(); 9])?;
-    assert!(rt; is_draft(&nine, 2, Some(5), &[]));
-    let many = validated(alloc, &anchor, &[anchor.as_slice(); 17], &[&signer])?;
-    assert!(rt; is_draft(&many, 2, Some(5), &[]));
-    let bad = validated(alloc, &anchor, &[&anchor, EMPTY], &[&signer])?;
-    assert!(rt; is_draft(&bad, 2, Some(5), &[]));
-    let signed = signed_data(alloc, NO_CONTENT, &[&anchor], &[&signer])?;
-    let message = message_of(alloc, &signed)?;
-    let absent = answered(alloc, &anchor, END, INFO, &message)?;
-    assert!(rt; is_draft(&absent, 2, Some(5), &[]));
-    let other = answered(alloc, &anchor, END, INFO, b"abc")?;
-    assert!(rt; is_draft(&other, 2, Some(5), &[]));
-    assert_eq!(rt; other.info.as_slice(), INFO);
-    assert_eq!(rt; other.imprint.digest.as_slice(), DIGEST.as_slice());
-    assert_eq!(rt; Some(other.time), Moment::from_unix(END));
+    // No signer, and nine; seventeen certificates, one that doesn't decode, and no content.
+    assert!(rt; is_refused(alloc, own, CONTENT, &[own], &[], 1)?);
+    assert!(rt; is_refused(alloc, own, CONTENT, &[own], &[signer; 9], 5)?);
+    assert!(rt; is_refused(alloc, own, CONTENT, &[own; 17], &[signer], 5)?);
+    assert!(rt; is_refused(alloc, own, CONTENT, &[own, EMPTY], &[signer], 5)?);
+    assert!(rt; is_refused(alloc, own, NO_CONTENT, &[own], &[signer], 5)?);
+    Ok(())
+}
+
+#[test]
+fn a_message_that_is_no_document(rt: HostRuntime) -> Result<(), Fail> {
+    let alloc = rt.alloc();
+    let anchor = make_anchor(alloc)?;
+    let draft = answered(alloc, &anchor, END, INFO, b"abc")?;
+    assert!(rt; is_draft(&draft, 2, Some(5), &[]));
+    assert_eq!(rt; draft.info.as_slice(), INFO);
+    assert_eq!(rt; draft.imprint.digest.as_slice(), DIGEST.as_slice());
+    assert!(rt; !draft.imprint.with_null);
+    assert_eq!(rt; Some(draft.time), Moment::from_unix(END));
+    assert!(rt; draft.policy.is_none() && draft.req_signature.is_none());
     Ok(())
 }
 
