@@ -1,4 +1,4 @@
--- What the service of signed documents (RFC 3029 2.2) answers.
+-- What the service of signed documents (RFC 3029 2.3) answers.
 use Rattle.std.specs.Prelude.{◌≡◌, ℕ, Bool, true, is_none, List, [], ◌∷◌, map, Option, Some, None, if◌then◌else◌}
 use Rattle.std.specs.List.{list_all, list_any}
 use Rattle.dv_schema.specs.Schema.{ValueOf, contents, sequence_of}

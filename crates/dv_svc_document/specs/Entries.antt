@@ -1,4 +1,4 @@
--- What the certificate of service says of a signer of a document (RFC 3029 2.2, 9.1).
+-- What the certificate of service says of a signer of a document (RFC 3029 2.3, 9.1).
 use Rattle.std.specs.Prelude.{◌≤◌, ℕ, true, List, [], ◌∷◌, ◌++◌, drop, length, map, option_map, slice_index_or, sum_by, unwrap_or, Option, Some, None}
 use Rattle.std.proofs.Common.{inr, inl}
 use Rattle.dv_schema.specs.Schema.{FieldsOf, ValueOf, contents, sequence_of}

@@ -1,4 +1,4 @@
--- What is found of a signer of a document (RFC 3029 2.2) at a moment, where the certificates of the document are the bag.
+-- What is found of a signer of a document (RFC 3029 2.3) at a moment, where the certificates of the document are the bag.
 use Rattle.std.specs.Prelude.{◌≡◌, ℕ, Bool, true, ◌||◌, ◌==◌, ◌/◌, ◌%◌, ◌^◌, List, [], length, slice_index_or, unwrap_or, Option, Some, None, All, if◌then◌else◌}
 use Rattle.std.specs.List.{zip}
 use Rattle.dv_schema.specs.Schema.{ValueOf}

@@ -1,4 +1,4 @@
-//! The service of signed documents (RFC 3029 2.2): `vsd` validates a signed document.
+//! The service of signed documents (RFC 3029 2.3): `vsd` validates a signed document.
 //!
 //! What it is for: [`answer_vsd`] makes the draft of a certificate of service from a request whose message is a signed document.
 //! [`judge_signer`] judges one of the signers of signed data, among the certificates of its [`document_bag`].
