@@ -34,10 +34,10 @@ const VERSION: u8 = 1;
 const DIRECTORY_NAME: u8 = 0xA4;
 
 /// Whether the service takes such data.
-fn takes(service: Service, data: &Data<'_>) -> bool
-    ensures { result ≡ takes_data (number_of service) (view_data data.now) }
+fn takes(service: Service, matter: &Data<'_>) -> bool
+    ensures { result ≡ takes_data (number_of service) (view_data matter.now) }
 {
-    match (service, data) {
+    match (service, matter) {
         (Service::Cpd | Service::Vsd, Data::Message(_)) => true,
         (Service::Ccpd, Data::Imprint(_)) => true,
         (Service::Cpkc, Data::Certs { .. }) => true,

@@ -1,8 +1,11 @@
 -- One turn over extensions.
-use Rattle.std.proofs.Common.{◌≡◌, ◌<◌, ◌||◌, ℕ, Option, Result, Ok, Err, List, refl, sym, ap, subst, ◌∙◌}
-use Rattle.std.specs.Prelude.{IsOkAnd}
+use Rattle.std.proofs.Common.{◌≡◌, ◌++◌, ℕ, Bool, true, false, Option, None, Some, Result, Ok, Err, List, [], ◌∷◌, length, eqb, not, refl, sym, ap, ◌∙◌, inl, inr, arith}
+use Rattle.std.specs.Prelude.{IsOkAnd, nat_eq}
+use Rattle.std.specs.Option.{option_eq}
+use Rattle.std.proofs.lemmas.Bool.{cases_Bool, eqb-true, eqb-false}
+use Rattle.std.proofs.lemmas.List.{length-append}
 use Rattle.dv_schema.specs.declared.refusal.Der.{Der}
-use Rattle.dv_schema.specs.Octets.{same_octets, is_one_of, IsBytes}
+use Rattle.dv_schema.specs.Octets.{are_apart, is_one_of, IsBytes}
 use Rattle.dv_schema.specs.Schema.{Schema, Body, node, kept, done}
 use Rattle.dv_schema.specs.Types.{oid, flag, octet_string}
 use Rattle.dv_schema.specs.Reading.{Spot, Item, item_at, within, is_tag_of, maybe_at, starts_list, read, read_fields, first_contents}
@@ -10,7 +13,10 @@ use Rattle.dv_schema.specs.Answers.{skipped}
 use Rattle.dv_schema.proofs.Tools.{ok_is}
 use Rattle.dv_schema.proofs.Takes.{takes}
 use Rattle.dv_schema.specs.Answers.{Keys}
-use Rattle.dv_schema.proofs.Distinct.{keys_step, first_is}
+use Rattle.dv_schema.proofs.Distinct.{first_is}
+use Rattle.dv_repeats.specs.Lists.{AreApartUpTo, AreKeys}
+use Rattle.dv_repeats.proofs.ApartLemmas.{apart_end}
+use Rattle.dv_names.specs.Turns.{extension_turn, first_read}
 use Rattle.dv_names.specs.Types.{extension_fields}
 
 -- an extension, passed by its own fields
@@ -33,17 +39,38 @@ extension_passes p inside after id q critical r value s bytes outer a b d end =
     let first : first_contents inside.rest ≡ id = ap first_contents t.0.octets ∙ first_is 6 id q.rest refl t.1.1 in
     rw (outer, a, b, d, end) (refl, first)
 
--- the keys behind a member
-pub next_key : (ms : List (List ℕ)) (p end : Spot) (y : List ℕ × Spot) → Keys first_contents 48 extension_fields ms p end → p.place < end.place → read member p ≡ Ok y
-    → (more : List (List ℕ)) × Keys first_contents 48 extension_fields more y.1 end × ((x : List ℕ) → is_one_of ms x ≡ (same_octets x (first_contents y.0) || is_one_of more x))
-next_key ms p end y h lt e =
-    let s = keys_step first_contents 48 extension_fields ms p end h lt in
-    let pair = ok_is (s.3.0, s.3.1) y (sym s.3.2 ∙ e) in
-    let key : s.0 ≡ first_contents y.0 = sym s.3.3 ∙ ap (λ (z : List ℕ × Spot). first_contents z.0) pair in (
-      s.1,
-      subst (λ (m : Spot). Keys first_contents 48 extension_fields s.1 m end) (ap (λ (z : List ℕ × Spot). z.1) pair) s.3.4,
-      λ x. ap (λ (l : List (List ℕ)). is_one_of l x) (sym s.2) ∙ ap (λ (k : List ℕ). same_octets x k || is_one_of s.1 x) key,
-    )
+-- the identifiers between two spots, as they are passed one after another
+pub keys_turn : (ks : List (List ℕ)) (p q : Spot) → Keys first_contents 48 extension_fields ks p q → AreKeys extension_turn ks p q
+keys_turn [] p q h = h
+keys_turn (k ∷ ks) p q h = (h.1, ap first_read h.2 ∙ ap (λ (i : List ℕ). Some (i, h.1)) h.3, keys_turn ks h.1 q h.4)
+
+-- the extension that is told to repeat an identifier is the first that does
+pub repeats_here : (ks : List (List ℕ)) (k : List ℕ) (repeated : Option ℕ) (number : ℕ) → length ks ≡ number → are_apart [] ks ≡ true → AreApartUpTo ks repeated → AreApartUpTo (ks ++ k ∷ []) repeated
+    → is_one_of ks k ≡ option_eq nat_eq repeated (Some number)
+repeats_here ks k repeated number size apart few more = go repeated few more (is_one_of ks k) refl
+  where
+    -- the keys with the next one are apart where it isn't one of them
+    next : (b : Bool) → is_one_of ks k ≡ b → are_apart [] (ks ++ k ∷ []) ≡ not b
+    next b e = apart_end [] ks k ∙ rw (apart, e) refl
+
+    go : (r : Option ℕ) → AreApartUpTo ks r → AreApartUpTo (ks ++ k ∷ []) r → (b : Bool) → is_one_of ks k ≡ b → b ≡ option_eq nat_eq r (Some number)
+    go None few more true e = absurd (let bad : false ≡ true = sym (next true e) ∙ more in cc)
+    go None few more false e = refl
+    go (Some r) few more true e =
+        elim (cases_Bool (eqb r number)) [
+          | inl t ↦ sym t
+          | inr f ↦ absurd (let ne = eqb-false r number f in
+              let least = few.0 apart in
+              let long = length-append ks (k ∷ []) in
+              let bad : false ≡ true = sym (next true e) ∙ more.1 (omega (arith, ne, least, size, long)) in cc)
+        ]
+    go (Some r) few more false e =
+        elim (cases_Bool (eqb r number)) [
+          | inl t ↦ absurd (let is = eqb-true r number t in
+              let long = length-append ks (k ∷ []) in
+              let least = more.0 (next false e) in omega (arith, is, size, long, least))
+          | inr f ↦ sym f
+        ]
 
 -- the contents of a member that go by its identifier, from a cursor over its fields
 pub checked : (known : Body) (p start fields after : Spot) (i : Item) (place : ℕ) (r : Result (Unit {0}) Der) → item_at (is_tag_of 48) p ≡ Ok i

@@ -5,7 +5,6 @@ ghost use Rattle.std.specs.Option.{option_copied};
 ghost use Rattle.dv_schema.specs.Schema.{contents as contents_of, spelling};
 ghost use Rattle.dv_schema.specs.Types.{oid as oid_type};
 ghost use Rattle.dv_schema.specs.Reading.{read};
-ghost use Rattle.dv_schema.specs.Answers.{Reads};
 ghost use Rattle.dv_schema.specs.Decodes.{Decodes, HasSpelling};
 ghost use Rattle.dv_asn1.specs.Writing.{room_of, Writes};
 ghost use Rattle.dv_names.specs.Types.{algorithm_fields, algorithm_identifier, digest_fields, digest_info};

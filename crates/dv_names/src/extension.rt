@@ -3,7 +3,6 @@
 ghost use Rattle.std.specs.Prelude.{◌≡◌, ◌≤◌, length};
 ghost use Rattle.dv_schema.specs.Rules.{flag_octets};
 ghost use Rattle.dv_schema.specs.Schema.{contents as contents_of, spelling};
-ghost use Rattle.dv_schema.specs.Types.{oid as oid_type};
 ghost use Rattle.dv_schema.specs.Reading.{read};
 ghost use Rattle.dv_schema.specs.Decodes.{Decodes, HasSpelling};
 ghost use Rattle.dv_asn1.specs.Writing.{room_of, Writes};

@@ -1,15 +1,16 @@
 //! Lists of extensions, of which no two have one identifier.
 
-ghost use Rattle.std.specs.Prelude.{◌≡◌, ◌/◌, ◌%◌, IfOk, List, ℕ, Ok};
+ghost use Rattle.std.specs.Prelude.{◌≡◌, ◌/◌, ◌%◌, IfOk, Ok};
 ghost use Rattle.std.specs.Option.{option_copied};
-ghost use Rattle.dv_schema.specs.Octets.{is_one_of};
 ghost use Rattle.dv_schema.specs.Schema.{Body, kept, node};
 ghost use Rattle.dv_schema.specs.Types.{free};
 ghost use Rattle.dv_schema.specs.Reading.{first_contents, is_tag_of, item_at, maybe_at, read, read_fields, starts_list};
-ghost use Rattle.dv_schema.specs.Answers.{Gives, Keys, Reads, TellsKey, skipped};
+ghost use Rattle.dv_schema.specs.Answers.{Gives, Reads, TellsKey, skipped};
 ghost use Rattle.dv_names.specs.Types.{extension_fields, extensions, extensions_under};
+ghost use Rattle.dv_names.specs.Turns.{extension_turn};
 
-use dv_asn1::{Cursor, Der, Why, same};
+use dv_asn1::{Cursor, Der, Why};
+use dv_repeats::{Keyed, first_repeated};
 
 /// Which extensions have contents that are looked at, and how.
 pub trait Known {
@@ -34,11 +35,25 @@ impl Known for NoneKnown {
     }
 }
 
+/// Extensions by their identifiers.
+struct ByIdentifier;
+
+impl Keyed for ByIdentifier {
+    ghost turn = { extension_turn };
+
+    fn pass_key<'a>(c: &mut Cursor<'a>) -> Option<&'a [u8]> {
+        match pass_extension(c) {
+            Ok((oid, _)) => Some(oid),
+            Err(_) => None,
+        }
+    }
+}
+
 /// That the contents of the list at this place are extensions, at least one, and no two with one identifier.
 ///
 /// For each extension in turn: its own fields and what is left behind them, then `Value` at it where its identifier was
-/// there before, then the contents that go by its identifier. It takes no memory, so each identifier is compared with
-/// those before it.
+/// there before, then the contents that go by its identifier. No memory is taken. The first repetition is looked for before
+/// the contents are, by 1,024 identifiers at a time.
 pub fn check_extensions<K: Known>(contents: &Cursor<'_>, place: u64) -> Result<(), Der>
     ensures { Gives (λ x. x) result (skipped (read_fields (extensions K.known) place contents.now)) }
 {
@@ -46,13 +61,16 @@ pub fn check_extensions<K: Known>(contents: &Cursor<'_>, place: u64) -> Result<(
     if next.at_end() {
         return Err(Der::new(place, Why::Value));
     }
+    let repeated = first_repeated::<ByIdentifier>(contents);
+    let mut number = 0;
     while !next.at_end() {
         let start = next.fork();
-        let (oid, fields) = pass_extension(&mut next)?;
-        if is_repeated(contents, &start, oid) {
+        let (_, fields) = pass_extension(&mut next)?;
+        if repeated == Some(number) {
             return Err(start.refusal(Why::Value));
         }
         K::check(&fields, start.place())?;
+        number += 1;
     }
     Ok(())
 }
@@ -106,23 +124,4 @@ fn pass_extension<'a>(c: &mut Cursor<'a>) -> Result<(&'a [u8], Cursor<'a>), Der>
     inside.finish()?;
     *c = next;
     Ok((oid, fields))
-}
-
-/// Whether one of the extensions between two cursors has the identifier.
-fn is_repeated(from: &Cursor<'_>, end: &Cursor<'_>, oid: &[u8]) -> bool
-    ensures { (ks : List (List ℕ)) → Keys first_contents 48 extension_fields ks from.now end.now
-        → result ≡ is_one_of ks oid.now }
-{
-    let mut next = from.fork();
-    while next.place() < end.place() {
-        match pass_extension(&mut next) {
-            Err(_) => return false,
-            Ok((other, _)) => {
-                if same(oid, other) {
-                    return true;
-                }
-            }
-        }
-    }
-    false
 }

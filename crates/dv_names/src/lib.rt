@@ -8,7 +8,7 @@
 //! [`oid_from_text`] gives the identifier that a text shows, or the place of the first octet that no such text has there; the
 //! two undo each other. Of all calls only these two take memory.
 //!
-//! What it stands on: `dv_asn1`, over the definitions of `dv_schema`, and `thiserror`.
+//! What it stands on: `dv_asn1`, over the definitions of `dv_schema`, `dv_repeats` for lists of extensions, and `thiserror`.
 #![tactic(auto)]
 
 mod algorithm;

@@ -2,9 +2,10 @@
 
 use crate::{
     AlgId, DigestInfo, DigestKind, Extension, GeneralName, Name, NoneKnown, Oid, PolicyInfo,
-    digest_kind, read_extensions, read_optional_extensions,
+    check_extensions, digest_kind, read_extensions, read_optional_extensions,
 };
 use dv_asn1::{Cursor, Der, Why, Writer};
+use std::alloc::{AllocError, Global};
 
 /// Octets that are no spelling, with the place and the reason of the refusal.
 type Refused<'a> = (&'a [u8], u64, Why);
@@ -477,4 +478,80 @@ fn lists_that_may_be_absent(rt: HostRuntime) {
         Ok(true)
     );
     assert_eq!(rt; has_list(&[0x30, 0x00]), Err(Der::new(0, Why::Value)));
+}
+
+/// How many extensions a long list has: more than are looked for at a time, and more than twice that many.
+const MANY: usize = 5_000;
+
+/// The identifier of the extension with this number, as a number: its own, but for those that repeat another's.
+fn own_or_repeated(number: usize, repeats: &[(usize, usize)]) -> usize {
+    for (repeating, repeated) in repeats {
+        if *repeating == number {
+            return *repeated;
+        }
+    }
+    number
+}
+
+/// The contents of a long list of extensions of 8 octets each.
+fn long_list(alloc: Global, repeats: &[(usize, usize)]) -> Result<Vec<u8>, AllocError> {
+    let mut octets = Vec::new(alloc);
+    for number in 0..MANY {
+        let identifier = own_or_repeated(number, repeats);
+        let high = (identifier / 128 % 64) as u8;
+        let low = (identifier % 128) as u8;
+        octets.extend_from_slice(&[0x30, 0x06, 0x06, 0x02, 0x81 + high, low, 0x04, 0x00])?;
+    }
+    Ok(octets)
+}
+
+/// The first extension that repeats an identifier is refused, wherever the two stand.
+#[test]
+fn long_lists_of_extensions(rt: HostRuntime) -> Result<(), AllocError> {
+    let alloc = rt.alloc();
+    let octets = long_list(alloc, &[])?;
+    assert_eq!(rt;
+        check_extensions::<NoneKnown>(&Cursor::new(&octets), 0),
+        Ok(())
+    );
+    let lists: [(&[(usize, usize)], u64); 7] = [
+        (&[(1, 0)], 1),
+        (&[(1_024, 0)], 1_024),
+        (&[(1_024, 1_023)], 1_024),
+        (&[(2_049, 2_048)], 2_049),
+        (&[(4_999, 0)], 4_999),
+        // The later pair begins earlier.
+        (&[(2_000, 1_999), (4_000, 5)], 2_000),
+        (&[(3_500, 3_400), (3_000, 1_500)], 3_000),
+    ];
+    for (repeats, first) in lists {
+        let octets = long_list(alloc, repeats)?;
+        assert_eq!(rt;
+            check_extensions::<NoneKnown>(&Cursor::new(&octets), 0),
+            Err(Der::new(8 * first, Why::Value)),
+            "where {repeats:?}"
+        );
+    }
+    Ok(())
+}
+
+/// A fault before a repetition is told first, and one behind it isn't.
+#[test]
+fn faults_in_long_lists(rt: HostRuntime) -> Result<(), AllocError> {
+    let mut octets = long_list(rt.alloc(), &[(3_000, 10)])?;
+    if let Some(tag) = octets.get_mut(8 * 3_001) {
+        *tag = 0x31;
+    }
+    assert_eq!(rt;
+        check_extensions::<NoneKnown>(&Cursor::new(&octets), 0),
+        Err(Der::new(8 * 3_000, Why::Value))
+    );
+    if let Some(tag) = octets.get_mut(8 * 2_999) {
+        *tag = 0x31;
+    }
+    assert_eq!(rt;
+        check_extensions::<NoneKnown>(&Cursor::new(&octets), 0),
+        Err(Der::new(8 * 2_999, Why::Tag))
+    );
+    Ok(())
 }

@@ -1,23 +1,22 @@
 -- Going over attributes that were read.
-use Rattle.std.proofs.Common.{◌≡◌, ◌∙◌, ◌&&◌, ◌||◌, ℕ, Bool, true, false, Option, Some, None, Result, Ok, Err, List, [], ◌∷◌, length, eqb, map, not, inl, inr, refl, sym, ap, arith}
-use Rattle.std.specs.Prelude.{is_some, option_map}
-use Rattle.std.specs.Borrow.{Bor}
-use Rattle.std.specs.Option.{option_copied}
+use Rattle.std.proofs.Common.{◌≡◌, ◌∙◌, ◌<◌, ℕ, true, false, Option, Some, None, Result, Ok, Err, List, [], ◌∷◌, length, drop, eqb, map, not, inl, inr, refl, sym, ap, arith}
+use Rattle.std.specs.Prelude.{IfSome, is_some}
 use Rattle.std.proofs.lemmas.Bool.{cases_Bool, eqb-true, ne_eqb}
 use Rattle.dv_schema.specs.declared.refusal.Der.{Der}
-use Rattle.dv_schema.specs.Octets.{are_apart, is_one_of, same_octets}
+use Rattle.dv_schema.specs.Octets.{are_apart, same_octets}
 use Rattle.dv_schema.specs.Schema.{Schema, ValueOf}
 use Rattle.dv_schema.specs.Types.{any}
 use Rattle.dv_schema.specs.Reading.{Spot, ◌>>=◌, all_at, read}
-use Rattle.dv_schema.proofs.Counts.{member_fault, member_turn}
+use Rattle.dv_schema.proofs.Counts.{member_fault, member_none, member_turn}
 use Rattle.dv_schema.proofs.Moves.{moves, read_moves, skip_err}
 use Rattle.dv_schema.proofs.Nodes.{skipped_fault}
 use Rattle.dv_schema.proofs.Orders.{all_one}
 use Rattle.dv_members.specs.Members.{front_of, or_none, values_in}
 use Rattle.dv_cms.specs.Types.{attribute}
 use Rattle.dv_x509.specs.Uses.{first_named}
+use Rattle.dv_repeats.specs.Lists.{AreApartUpTo, AreKeys}
 use Rattle.dv_signed.specs.Attributes.{one_value, type_of}
-use Rattle.dv_signed.proofs.Sameness.{same_swap}
+use Rattle.dv_signed.specs.Turns.{attribute_turn, type_read}
 
 -- the first of the members that are left
 pub record IsTurn (s : Schema) (p : Spot) (vs : List (ValueOf s)) : Type 0 where
@@ -42,58 +41,48 @@ types_here id v vs e = rw e refl
 pub types_behind : (id : List ℕ) (v : ValueOf attribute) (vs : List (ValueOf attribute)) → same_octets id (type_of v) ≡ false → first_named type_of id vs ≡ first_named type_of id (v ∷ vs)
 types_behind id v vs e = rw e refl
 
--- what stands for a value is there where the value is
-mapped : {A B : Type 0} (f : A → B) (r : Option A) → is_some (option_map f r) ≡ is_some r
-mapped f None = refl
-mapped f (Some x) = refl
+-- the first of some attributes
+abbrev head_or : ValueOf attribute → List (ValueOf attribute) → ValueOf attribute
+head_or d [] = d
+head_or d (v ∷ vs) = v
 
-copied : (r : Option (Bor (List ℕ))) → is_some (option_copied r) ≡ is_some r
-copied None = refl
-copied (Some x) = refl
-
--- an attribute with a type is there where it is one of the types
-pub found_type : (id : List ℕ) (vs : List (ValueOf attribute)) → is_some (first_named type_of id vs) ≡ is_one_of (map type_of vs) id
-found_type id [] = refl
-found_type id (v ∷ vs) =
-    elim (cases_Bool (same_octets id (type_of v))) [
-      | inl t ↦ rw t refl
-      | inr f ↦ rw f (found_type id vs)
+-- the types of attributes that were read, one after another to their end
+pub types_between : (p : Spot) (vs : List (ValueOf attribute)) → all_at (read attribute) (length p.rest) p ≡ Ok vs → (q : Spot) × (length q.rest ≡ 0) × AreKeys attribute_turn (map type_of vs) p q
+types_between p [] e =
+    elim (cases_Bool (eqb (length p.rest) 0)) [
+      | inl t ↦ (p, eqb-true (length p.rest) 0 t, refl)
+      | inr f ↦ absurd (let t = next_turn attribute p [] f e in let bad = t.all in cc)
     ]
+types_between p (v ∷ vs) e = go (λ q. types_between q vs)
+  where
+    go : ((q : Spot) → all_at (read attribute) (length q.rest) q ≡ Ok vs → (r : Spot) × (length r.rest ≡ 0) × AreKeys attribute_turn (map type_of vs) q r) → (r : Spot) × (length r.rest ≡ 0) × AreKeys attribute_turn (map type_of (v ∷ vs)) p r
+    go behind =
+        elim (cases_Bool (eqb (length p.rest) 0)) [
+          | inl none ↦ absurd (let bad = member_none attribute p (v ∷ vs) none e in cc)
+          | inr some ↦ (let t = next_turn attribute p (v ∷ vs) some e in
+              let here : t.first.0 ≡ v = ap (λ (l : List (ValueOf attribute)). head_or v l) t.all in
+              let left : all_at (read attribute) (length t.first.1.rest) t.first.1 ≡ Ok vs = t.left ∙ ap (λ (l : List (ValueOf attribute)). Ok (drop 1 l)) t.all in
+              let more = behind t.first.1 left in
+              let told : attribute_turn p ≡ Some (type_of v, t.first.1) = ap type_read t.is_read ∙ ap (λ (a : ValueOf attribute). Some (type_of a, t.first.1)) here in
+              (more.0, more.1, (t.first.1, told, more.2)))
+        ]
 
--- so are its values, where they were looked for
-pub found_values : (id : List ℕ) (r : Option (Bor (List ℕ))) (vs : List (ValueOf attribute)) → option_copied r ≡ option_map (λ a. a.1.0) (first_named type_of id vs) → is_some r ≡ is_one_of (map type_of vs) id
-found_values id r vs e = sym (copied r) ∙ ap is_some e ∙ mapped (λ (a : ValueOf attribute). a.1.0) (first_named type_of id vs) ∙ found_type id vs
-
--- six tests, in two orders
-apart_tests : (s o a b r : Bool) → (not (s || o) && (not a && (not b && r))) ≡ (not (s || b) && (not o && (not a && r)))
-apart_tests true o a b r = refl
-apart_tests false true a true r = refl
-apart_tests false true a false r = refl
-apart_tests false false true true r = refl
-apart_tests false false true false r = refl
-apart_tests false false false true r = refl
-apart_tests false false false false r = refl
-
--- one of those seen more
-seen_more : (seen xs : List (List ℕ)) (x : List ℕ) → are_apart (x ∷ seen) xs ≡ (not (is_one_of xs x) && are_apart seen xs)
-seen_more seen [] x = refl
-seen_more seen (y ∷ ys) x =
-    let r : Bool = are_apart seen ys in
-    let a : Bool = is_one_of ys y in
-    let b : Bool = is_one_of ys x in
-    let o : Bool = is_one_of seen y in
-    let deep : are_apart (y ∷ x ∷ seen) ys ≡ (not a && (not b && r)) = seen_more (x ∷ seen) ys y ∙ ap (λ (z : Bool). not a && z) (seen_more seen ys x) in
-    let flat : are_apart (y ∷ seen) ys ≡ (not a && r) = seen_more seen ys y in
-    ap (λ (z : Bool). not (same_octets y x || o) && z) deep ∙ ap (λ (z : Bool). not (z || o) && (not a && (not b && r))) (same_swap y x) ∙ apart_tests (same_octets x y) o a b r
-    ∙ ap (λ (z : Bool). not (same_octets x y || b) && (not o && z)) (sym flat)
-
--- the first type is among those behind it
-pub first_repeated : (x : List ℕ) (xs : List (List ℕ)) → is_one_of xs x ≡ true → true ≡ not (are_apart [] (x ∷ xs))
-first_repeated x xs e = let more = seen_more [] xs x in rw (more, e) refl
-
--- or isn't
-pub first_alone : (x : List ℕ) (xs : List (List ℕ)) → is_one_of xs x ≡ false → are_apart [] xs ≡ are_apart [] (x ∷ xs)
-first_alone x xs e = let more = seen_more [] xs x in rw (more, e) refl
+-- whether a type is told to be repeated is whether two are the same
+pub repeats_told : (p : Spot) (vs : List (ValueOf attribute)) (repeated : Option ℕ) → all_at (read attribute) (length p.rest) p ≡ Ok vs
+    → ((ks : List (List ℕ)) (q : Spot) → AreKeys attribute_turn ks p q → AreApartUpTo ks repeated)
+    → ((ks : List (List ℕ)) (q : Spot) → AreKeys attribute_turn ks p q → length q.rest ≡ 0 → IfSome repeated (λ first. first < length ks))
+    → is_some repeated ≡ not (are_apart [] (map type_of vs))
+repeats_told p vs repeated e first within =
+    let t = types_between p vs e in
+    go repeated (first (map type_of vs) t.0 t.2) (within (map type_of vs) t.0 t.2 t.1)
+  where
+    go : (r : Option ℕ) → AreApartUpTo (map type_of vs) r → IfSome r (λ first. first < length (map type_of vs)) → is_some r ≡ not (are_apart [] (map type_of vs))
+    go None apart w = sym (ap not apart)
+    go (Some n) apart w =
+        elim (cases_Bool (are_apart [] (map type_of vs))) [
+          | inl t ↦ absurd (let least = apart.0 t in omega (arith, least, w))
+          | inr f ↦ sym (ap not f)
+        ]
 
 -- ---- the one value of a set
 

@@ -1,6 +1,6 @@
 -- Octets that are compared in parts.
-use Rattle.std.proofs.Common.{◌≡◌, ◌≤◌, ◌<◌, ◌+◌, ◌&&◌, ◌++◌, ℕ, Bool, false, List, [], ◌∷◌, eqb, get_or, length, take, drop, refl, sym, ap, ◌∙◌, inl, inr, arith, eq-eqb}
-use Rattle.std.proofs.lemmas.Bool.{cases_Bool, eqb-true, eqb-false, lt-ltb, ne_eqb}
+use Rattle.std.proofs.Common.{◌≡◌, ◌≤◌, ◌<◌, ◌+◌, ◌&&◌, ◌++◌, ℕ, Bool, false, List, [], ◌∷◌, eqb, get_or, length, take, drop, refl, sym, ap, ◌∙◌, inl, inr, arith}
+use Rattle.std.proofs.lemmas.Bool.{cases_Bool, lt-ltb}
 use Rattle.std.proofs.lemmas.List.{length-append}
 use Rattle.std.proofs.Math.Seq.{take-append_seam}
 use Rattle.sha2.proofs.Facts256.{length-sha256}
@@ -12,21 +12,6 @@ use Rattle.dv_names.specs.declared.digest.DigestKind.{DigestKind}
 use Rattle.dv_names.specs.declared.digest.DigestKind.TheVariants.{Sha256, Sha384, Sha512}
 use Rattle.dv_names.specs.Digest.{length_of}
 use Rattle.dv_signed.specs.Kinds.{digest_by}
-
--- it doesn't matter which of two numbers stands first
-eqb_swap : (x y : ℕ) → eqb x y ≡ eqb y x
-eqb_swap x y =
-    elim (cases_Bool (eqb x y)) [
-      | inl t ↦ t ∙ sym (eq-eqb y x (sym (eqb-true x y t)))
-      | inr f ↦ f ∙ sym (ne_eqb y x (λ e. eqb-false x y f (sym e)))
-    ]
-
--- nor which of two lists of octets
-pub same_swap : (xs ys : List ℕ) → same_octets xs ys ≡ same_octets ys xs
-same_swap [] [] = refl
-same_swap [] (y ∷ ys) = refl
-same_swap (x ∷ xs) [] = refl
-same_swap (x ∷ xs) (y ∷ ys) = ap (λ (b : Bool). b && same_octets xs ys) (eqb_swap x y) ∙ ap (λ (b : Bool). eqb y x && b) (same_swap xs ys)
 
 -- how many octets a digest has
 pub length-digest : (kind : DigestKind) (octets : List ℕ) → length (digest_by kind octets) ≡ length_of kind

@@ -11,3 +11,4 @@ pub mod Places
 pub mod SidView
 pub mod SignedView
 pub mod SignerView
+pub mod Turns

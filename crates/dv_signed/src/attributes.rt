@@ -13,6 +13,7 @@ ghost use Rattle.dv_x509.specs.Uses.{first_named};
 ghost use Rattle.dv_signed.specs.AttributeView.{view_attribute};
 ghost use Rattle.dv_signed.specs.Attributes.{AreAttributes, are_octets, are_right, has_content_type, message_digest_of, names_its_certificate, one_value, type_of, values_under};
 ghost use Rattle.dv_signed.specs.Kinds.{digest_by};
+ghost use Rattle.dv_signed.specs.Turns.{attribute_turn};
 
 use crate::digest::holds_digest;
 use crate::essential::names_certificate;
@@ -20,6 +21,7 @@ use crate::header::is_value;
 use dv_asn1::{Cursor, Der, same};
 use dv_names::DigestKind;
 use dv_names::identifiers::{CONTENT_TYPE, MESSAGE_DIGEST, SIGNING_CERTIFICATE_V2};
+use dv_repeats::{Keyed, first_repeated};
 
 /// The tag of an Attribute.
 const SEQUENCE: u8 = 0x30;
@@ -74,25 +76,26 @@ pub(crate) fn find_values<'a>(attributes: &Cursor<'a>, oid: &[u8]) -> Option<&'a
     None
 }
 
+/// Attributes by their types.
+struct ByType;
+
+impl Keyed for ByType {
+    ghost turn = { attribute_turn };
+
+    fn pass_key<'a>(c: &mut Cursor<'a>) -> Option<&'a [u8]> {
+        match next_attribute(c) {
+            Ok(attribute) => Some(attribute.oid),
+            Err(_) => None,
+        }
+    }
+}
+
 /// Whether two attributes have one type, in the contents of a set that was read.
-///
-/// It takes no memory, so each attribute is compared with those behind it.
 pub(crate) fn has_repeated_type(attributes: &Cursor<'_>) -> bool
     ensures { (vs : List (ValueOf attribute_type)) → AreAttributes attributes.now vs
         → result ≡ not (are_apart [] (map type_of vs)) }
 {
-    let mut next = attributes.fork();
-    while !next.at_end() {
-        match next_attribute(&mut next) {
-            Err(_) => return false,
-            Ok(attribute) => {
-                if find_values(&next, attribute.oid).is_some() {
-                    return true;
-                }
-            }
-        }
-    }
-    false
+    first_repeated::<ByType>(attributes).is_some()
 }
 
 /// The one value of the first attribute with this type, in the contents of a set that was read; None where it isn't there

@@ -4,9 +4,6 @@ ghost use Rattle.std.specs.Prelude.{◌≡◌, ◌≤◌, ◌+◌, ◌↔◌, �
 ghost use Rattle.std.specs.Option.{option_copied};
 ghost use Rattle.dv_schema.specs.Tlv.{tlv};
 ghost use Rattle.dv_lms.specs.Verifies.{Verifies};
-ghost use Rattle.dv_names.specs.Views.{view_algorithm};
-ghost use Rattle.dv_x509.specs.Uses.{is_hss as hss};
-ghost use Rattle.dv_signed.specs.Attributes.{AreAttributes};
 ghost use Rattle.dv_signed.specs.Check.{IsFault, Signed, Signs, early_fault, fault_in, fault_with};
 ghost use Rattle.dv_signed.specs.SignerView.{view_signer};
 
@@ -17,22 +14,13 @@ use crate::signed_data::SignedData;
 use crate::signer::SignerInfo;
 use dv_asn1::{Cursor, header_len, same};
 use dv_lms::{Steps, verify, verify_joined};
-use dv_names::identifiers::{ID_ALG_HSS_LMS_HASHSIG, ID_DATA};
-use dv_names::{AlgId, DigestKind, digest_kind};
+use dv_names::identifiers::ID_DATA;
+use dv_names::{DigestKind, digest_kind};
+use dv_x509::is_hss;
 use std::sync::ledger::Ledger;
 
 /// The tag under which signed attributes are signed.
 const SET: u8 = 0x31;
-
-/// Whether the algorithm is HSS, without parameters.
-fn is_hss(alg: &AlgId<'_>) -> bool
-    ensures { result ≡ hss (view_algorithm alg.now) }
-{
-    match alg.params {
-        None => same(alg.oid.octets, &ID_ALG_HSS_LMS_HASHSIG),
-        Some(_) => false,
-    }
-}
 
 /// Whether the signature is one of signed attributes, of which these are the contents octets: of the whole value under the
 /// tag of a SET (RFC 5652 5.4). Counts one step.

@@ -9,7 +9,7 @@
 //! `IsFault` in specs/Check.antt, and at most one signature is verified for it. No call takes memory.
 //!
 //! What it stands on: `dv_cms` for the types of signers, `dv_names` for names and algorithms, `dv_members` for lists,
-//! `dv_x509` for the algorithm of keys, `dv_lms` for signatures, `sha2` for digests, and `dv_asn1` over the definitions of `dv_schema`.
+//! `dv_repeats` for types that stand twice, `dv_x509` for the algorithm of keys, `dv_lms` for signatures, `sha2` for digests, and `dv_asn1` over the definitions of `dv_schema`.
 #![tactic(auto)]
 
 mod attributes;

@@ -1,6 +1,6 @@
 //! Certificates of keys.
 
-ghost use Rattle.std.specs.Prelude.{◌≡◌, ◌≤◌, ◌<◌, ◌⊎◌, ◌↔◌, IsErrOf, true, length, option_map};
+ghost use Rattle.std.specs.Prelude.{◌≡◌, ◌≤◌, ◌<◌, ◌⊎◌, true, length};
 ghost use Rattle.std.specs.Option.{option_copied};
 ghost use Rattle.dv_schema.specs.Schema.{contents as contents_of, spelling};
 ghost use Rattle.dv_schema.specs.Fits.{Fits};

@@ -27,4 +27,4 @@ mod whole;
 pub use certificate::{CERTIFICATE_LIMIT, Certificate};
 pub use fault::X509;
 pub use own::{OwnParts, own_certificate, own_tbs};
-pub use uses::Ca;
+pub use uses::{Ca, is_hss};

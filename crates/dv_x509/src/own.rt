@@ -1,17 +1,13 @@
 //! The certificate that a register's holder issues to itself.
 
-ghost use Rattle.std.specs.Prelude.{◌≡◌, ◌≤◌, ◌<◌, ◌+◌, ◌*◌, ◌^◌, ◌∷◌, ◌++◌, [], List, ℕ, Some, IfOk, length, take};
+ghost use Rattle.std.specs.Prelude.{◌≡◌, ◌≤◌, ◌<◌, ◌+◌, ◌*◌, ◌^◌, List, ℕ, IfOk, length};
 ghost use Rattle.std.specs.Str.{IsUtf8};
 ghost use Rattle.dv_schema.specs.Schema.{contents as contents_of, spelling};
-ghost use Rattle.dv_schema.specs.Tlv.{integer_octets, tlv};
-ghost use Rattle.dv_schema.specs.Types.{bit_string};
 ghost use Rattle.dv_asn1.specs.Writing.{room_of, Writes};
-ghost use Rattle.dv_time.specs.Types.{time};
-ghost use Rattle.dv_time.specs.Views.{view_time};
 ghost use Rattle.dv_names.specs.Types.{algorithm_identifier, extension};
 ghost use Rattle.dv_x509.specs.Fields.{validity_of};
-ghost use Rattle.dv_x509.specs.Own.{OwnCertificate, OwnTbs, key_id_extension, purpose_extension, usage_extension, own_algorithm, own_extensions, own_fields, own_fields_with, own_key, own_key_id, own_name};
-ghost use Rattle.dv_x509.specs.Types.{certificate_extensions, public_key_info, serial_number, tbs_certificate, tbs_fields, validity, version};
+ghost use Rattle.dv_x509.specs.Own.{OwnCertificate, OwnTbs, key_id_extension, purpose_extension, usage_extension, own_algorithm, own_extensions, own_fields_with, own_key, own_key_id, own_name};
+ghost use Rattle.dv_x509.specs.Types.{certificate_extensions, public_key_info, tbs_certificate, tbs_fields, validity, version};
 
 use dv_asn1::{Writer, header_len, number_len, value_len};
 use dv_names::identifiers::{

@@ -1,7 +1,6 @@
 //! The part of a certificate that is signed.
 
-ghost use Rattle.std.specs.Prelude.{◌≡◌, ◌/◌, ◌%◌, option_map};
-ghost use Rattle.std.specs.Option.{option_copied};
+ghost use Rattle.std.specs.Prelude.{◌≡◌, ◌/◌, option_map};
 ghost use Rattle.dv_schema.specs.Reading.{is_tag_of, maybe_at, read, starts_list};
 ghost use Rattle.dv_schema.specs.Answers.{Reads};
 ghost use Rattle.dv_schema.specs.Types.{bit_string, primitive};

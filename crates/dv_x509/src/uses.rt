@@ -1,6 +1,6 @@
 //! What a certificate says of itself and of its key.
 
-ghost use Rattle.std.specs.Prelude.{◌≡◌, ◌≤◌, ◌∷◌, [], ◌++◌, true, List, ℕ, length, drop, option_map, Ok, Some};
+ghost use Rattle.std.specs.Prelude.{◌≡◌, ◌∷◌, [], true, List, length, Ok, Some};
 ghost use Rattle.std.specs.List.{list_any};
 ghost use Rattle.std.specs.Option.{option_copied};
 ghost use Rattle.dv_schema.specs.Schema.{spelling, ValueOf};
@@ -155,8 +155,8 @@ fn write_header(into: &mut [u8], contents: usize)
     out.header(SEQUENCE, contents);
 }
 
-/// Whether the algorithm is HSS, without parameters.
-fn is_hss(alg: &AlgId<'_>) -> bool
+/// Whether an algorithm, of a key or of a signature, is HSS (RFC 9708 3, 4): its identifier, and no parameters.
+pub fn is_hss(alg: &AlgId<'_>) -> bool
     ensures { result ≡ hss (view_algorithm alg.now) }
 {
     match alg.params {

@@ -2,7 +2,6 @@
 
 ghost use Rattle.std.specs.Prelude.{◌≡◌, ◌/◌, ◌%◌, IfOk, Some, None};
 ghost use Rattle.std.specs.Option.{option_copied};
-ghost use Rattle.dv_schema.specs.Octets.{same_octets};
 ghost use Rattle.dv_schema.specs.Schema.{contents as contents_of, spelling};
 ghost use Rattle.dv_schema.specs.Reading.{read, read_all};
 ghost use Rattle.dv_schema.specs.Answers.{Gives, Reads};

@@ -5,7 +5,8 @@ use Rattle.std.proofs.Math.Seq.{take-length}
 use Rattle.dv_schema.specs.Octets.{same_octets}
 use Rattle.dv_names.specs.Digest.{length_of}
 use Rattle.dv_signed.specs.Kinds.{digest_by}
-use Rattle.dv_signed.proofs.Sameness.{holds, holds_not, same_swap}
+use Rattle.dv_repeats.proofs.ApartLemmas.{same_swap}
+use Rattle.dv_signed.proofs.Sameness.{holds, holds_not}
 use Rattle.dv_signed.proofs.digest.holds_digest.Goals as goal
 use Rattle.dv_signed.proofs.digest.holds_digest.Goals.{then-tag-ne-OCTET_STRING-via-then-tag-ne-OCTET_STRING, then-tag-ne-OCTET_STRING-via-else-tag-ne-OCTET_STRING+then-len-digest_len}
 

@@ -1,0 +1,4 @@
+pub mod WindowLemmas
+pub mod ApartLemmas
+pub mod ScanLemmas
+pub mod GoneLemmas
