@@ -1,0 +1,5 @@
+pub mod Growth
+pub mod Sent
+pub mod Standing
+pub mod Answering
+pub mod Sending

@@ -1,0 +1,4 @@
+pub mod Events
+pub mod Receipts
+pub mod Stands
+pub mod Calls
