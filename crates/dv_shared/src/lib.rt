@@ -23,3 +23,6 @@ pub use locked::Locked;
 pub use origin::{NamesRegister, Origin};
 pub use receipt::{Receipt, SharedEmit, SharedReserve};
 pub use shared::{SharedRegister, Unshared};
+
+#[cfg(test)]
+mod tests;
