@@ -64,10 +64,11 @@ fn two_records<J: NamesRegister<MemStation> + Send + Sync, R: Wait + Abort>(
 fn one_worker(rt: HostRuntime) -> Result<(), Fail> {
     let alloc: Global = rt.alloc();
     let station = two_records::<Brand, _>(&rt, unshared(alloc, Vec::new(alloc))?);
-    assert_eq!(rt; station.sent(), b"out");
+    assert_eq!(rt; station.sent(), b"out".as_slice());
+    let behind = station.file().get(76..).ok_or("a head")?;
     assert_eq!(rt;
-        &station.file()[76..],
-        b"\xA5\x01\0\0\0\x03one\xA5\x02\0\0\0\x03two\0"
+        behind,
+        b"\xA5\x01\0\0\0\x03one\xA5\x02\0\0\0\x03two\0".as_slice()
     );
     Ok(())
 }
@@ -99,6 +100,6 @@ fn a_station_that_fails(rt: HostRuntime) -> Result<(), Fail> {
     // Making the register takes the calls 0 to 2.
     let failing = [4, 5].to_vec(alloc)?;
     let station = shut_by_a_fault::<Brand, _>(&rt, unshared(alloc, failing)?);
-    assert_eq!(rt; station.sent(), b"fo");
+    assert_eq!(rt; station.sent(), b"fo".as_slice());
     Ok(())
 }
