@@ -2,26 +2,19 @@
 //!
 //! A top call is generic over what it is lent ([`dv_outside`]'s traits), so its contract, which says what each command puts
 //! and when each exit status comes, holds over files, over memory and over any other world. There are two top calls:
-//! [`server::run_serve`] has the line of the server, and [`tool::run_tool`] those of all other commands: `request`, `init`,
+//! [`dv_server::run_serve`] has the line of the server, and [`dv_tool::run_tool`] those of all other commands: `request`, `init`,
 //! `reissue` and `show`.
 //!
-//! The crate stands on `dv_lines`, which reads the words, on `dv_files`, which reads the seed and the certificates, on `dv_request`, `dv_show` and
-//! `dv_commands`, which do the work, on `dv_session`, which serves, and on `dv_outside`.
+//! The crate stands on `dv_server` and `dv_tool`, on `dv_exit` for the statuses, and on `dv_outside`.
 #![tactic(auto)]
 
-mod files;
-mod say;
-mod server;
-mod status;
-mod tool;
 #[cfg(test)]
-mod trial;
-mod usage;
+mod tests;
 
-use crate::server::run_serve;
-use crate::status::Status;
-use crate::tool::run_tool;
+use dv_exit::Status;
 use dv_outside::{Diag, DirShelf, FileStation, StdDiag, StdSource, SystemClock};
+use dv_server::run_serve;
+use dv_tool::run_tool;
 use std::env;
 use std::env::Env;
 use std::io::ErrorKind;

@@ -1,7 +1,0 @@
-pub mod CertificateLemmas
-pub mod ChainLemmas
-pub mod FileLemmas
-pub mod LineLemmas
-pub mod Putting
-pub mod RequestLemmas
-pub mod ValidateLemmas

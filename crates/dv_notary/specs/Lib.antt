@@ -1,4 +1,0 @@
-pub mod Files
-pub mod Server
-pub mod Status
-pub mod Tool
